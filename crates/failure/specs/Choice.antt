@@ -1,0 +1,8 @@
+-- A choice by a test.
+use mathlib.Core.Bool.{Bool, true, false}
+
+infixr 10 if_then_else_
+-- the first value where the test holds, else the second
+abbrev pub if_then_else_ : {A : Type 0} → Bool → A → A → A
+if_then_else_ true a b = a
+if_then_else_ false a b = b

@@ -1,0 +1,6 @@
+-- The laws that callers cite, each file named after the definition that it is about.
+pub mod Tests
+pub mod Place
+pub mod Part
+pub mod Word
+pub mod Loaded

@@ -1,0 +1,62 @@
+-- What a part that was returned for the n bytes at an address says of the number there, over the width. Assumes nothing.
+use mathlib.Core.Path.{_≡_, sym, _∙_, ap}
+use mathlib.Core.Logic.{⊎-elim}
+use mathlib.Core.List.{List}
+use Prim.Native.Nat.{ℕ, _<_, _^_}
+use native.Mathlib.Omega.{arith}
+use lib.ListN.{length}
+use denote.Ref.{RefT}
+use Rattle.failure.specs.Outcome.{Outcome, Refused, Answer, _>>=_}
+use Rattle.failure.specs.Failure.{OutsideMemory}
+use Rattle.mem.specs.Memory.{Memory, lent}
+use Rattle.mem.specs.Place.{placeOf, bytesAt}
+use Rattle.mem.specs.Part.{PartOf}
+use Rattle.mem.specs.Word.{littleEndian, load, loadSigned, Loaded}
+use Rattle.mem.specs.Wrapping.{signed32}
+use Rattle.mem.specs.declared.load.Word.the-variants.{Value, Outside}
+use Rattle.mem.proofs.Part.{part-shows}
+
+-- the bytes are there: the number is that of the part
+load-there : (m : Memory) (a n v : ℕ) (bs : List ℕ) → bytesAt m a n ≡ Answer bs → v ≡ littleEndian bs → Answer v ≡ load m n a
+unfolding load
+load-there m a n v bs e p = rw e (ap Answer p)
+
+-- they are not
+load-nowhere : (m : Memory) (a n : ℕ) → bytesAt m a n ≡ Refused OutsideMemory → Refused OutsideMemory ≡ load m n a
+unfolding load
+load-nowhere m a n e = rw e
+
+module _ (section stack : RefT (List ℕ)) (sectionBase stackBase a n : ℕ) (r : RefT (List ℕ)) (some : 0 < n) where
+  -- a whole part gives the number
+  pub loads-value :
+      PartOf section stack n (placeOf (lent (section .now) sectionBase (stack .now) stackBase .regions) a n) r →
+      length (r .now) ≡ n → (v : ℕ) → (v ≡ littleEndian (r .now)) × (v < 256 ^ n) →
+      Loaded (lent (section .now) sectionBase (stack .now) stackBase .regions) n a (Value v)
+  loads-value p whole v is =
+      record {
+        outcome =
+            ⊎-elim (λ s. load-there _ a n v (r .now) (s .1) (is .0)) (λ s. absurd (omega arith))
+            (part-shows section stack sectionBase stackBase a n r some p);
+        fits = is .1;
+      }
+
+  -- any other gives 27
+  pub loads-outside :
+      PartOf section stack n (placeOf (lent (section .now) sectionBase (stack .now) stackBase .regions) a n) r →
+      (length (r .now) ≡ n → ⊥) → Loaded (lent (section .now) sectionBase (stack .now) stackBase .regions) n a Outside
+  loads-outside p part =
+      record {
+        outcome =
+            ⊎-elim (λ s. absurd (part (s .0))) (λ s. load-nowhere _ a n (s .1))
+            (part-shows section stack sectionBase stackBase a n r some p);
+        fits = tt;
+      }
+
+-- the signed number at an address is that of the word there
+pub signed-value : (m : Memory) (a w s : ℕ) → Answer w ≡ load m 4 a → s ≡ signed32 w → Answer s ≡ loadSigned m a
+unfolding loadSigned
+signed-value m a w s e p = rw (sym e) (ap Answer p)
+
+pub signed-outside : (m : Memory) (a : ℕ) → Refused OutsideMemory ≡ load m 4 a → Refused OutsideMemory ≡ loadSigned m a
+unfolding loadSigned
+signed-outside m a e = rw (sym e)

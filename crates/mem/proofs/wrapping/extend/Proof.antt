@@ -1,0 +1,17 @@
+-- `mem::wrapping::extend` meets its contract. Assumes nothing.
+use borrow.Author.Needs.{needs}
+use borrow.Author.Tests.{lt-ltb, le-ltb}
+use Rattle.mem.proofs.wrapping.extend.Statement.{statement}
+use Rattle.mem.proofs.wrapping.extend.Tie as tie
+
+returns : tie.Need-returns
+returns c = simp (lt-ltb _ _ (c .if1 .taken))
+
+add-result : tie.Need-add-result
+add-result c = search needs
+
+returns-2 : tie.Need-returns-2
+returns-2 c = simp (le-ltb _ _ (c .if1 .left))
+
+pub extend-spec : {M : Type 1} → statement M
+extend-spec = tie.close (tie.spec returns add-result returns-2)

@@ -1,0 +1,7 @@
+-- Memory as a call sees it: what is lent, when it is accepted, where bytes stand, little-endian words, and sums that wrap.
+pub mod Memory
+pub mod Opening
+pub mod Place
+pub mod Part
+pub mod Word
+pub mod Wrapping

@@ -1,0 +1,30 @@
+// Sums of addresses, which wrap at 2^64.
+ghost use mathlib.Core.Path.{_≡_};
+ghost use Rattle.mem.specs.Wrapping as Wrapping;
+
+// a + b modulo 2^64.
+pub fn add(a: usize, b: usize) -> usize
+    ensures { λ r. ⌜ r ≡ Wrapping.sum a b ⌝ }
+{
+    std::num::wrapping_add_usize(a, b)
+}
+
+// a - b modulo 2^64.
+pub fn sub(a: usize, b: usize) -> usize
+    ensures { λ r. ⌜ r ≡ Wrapping.difference a b ⌝ }
+{
+    if b <= a {
+        return a - b;
+    }
+    a + (usize::MAX - b) + 1
+}
+
+// A 32-bit word read as a signed number, modulo 2^64.
+pub fn extend(word: u32) -> usize
+    ensures { λ r. ⌜ r ≡ Wrapping.signed32 word ⌝ }
+{
+    if word < 0x8000_0000 {
+        return word as usize;
+    }
+    word as usize + 0xffff_ffff_0000_0000
+}

@@ -1,0 +1,45 @@
+//! generate MODULE ARCH: prints requests of the line protocol, in every run the same ones.
+
+mod memory;
+mod random;
+mod registers;
+mod uleb;
+
+use std::collections::HashSet;
+use std::process::exit;
+
+use random::Random;
+
+const SEED: u64 = 0x6d6f_7274_6877_7967;
+
+fn main() {
+    let args: Vec<String> = std::env::args().skip(1).collect();
+    let list = match args.iter().map(String::as_str).collect::<Vec<_>>()[..] {
+        [module, "1"] => requests(module, 1),
+        [module, "2"] => requests(module, 2),
+        _ => None,
+    };
+    let Some(list) = list else {
+        eprintln!("usage: generate MODULE ARCH, where MODULE is foundation and ARCH 1 or 2");
+        exit(2);
+    };
+    let mut seen = HashSet::new();
+    for request in list.iter().filter(|request| seen.insert(*request)) {
+        println!("{request}");
+    }
+}
+
+/// A new module adds its line here.
+fn requests(module: &str, arch: u64) -> Option<Vec<String>> {
+    let random = &mut Random::new(SEED ^ arch);
+    match module {
+        "foundation" => Some(foundation(arch, random)),
+        _ => None,
+    }
+}
+
+fn foundation(arch: u64, random: &mut Random) -> Vec<String> {
+    let mut list = uleb::requests(random);
+    list.extend(registers::requests(arch, random));
+    list
+}

@@ -1,0 +1,168 @@
+//! pack ARCH REQUESTS ANSWERS: prints one packed line for each request and its answer.
+//! A packed line is numbers only: hexadecimal, one blank between.
+
+#[path = "../program/tokens.rs"]
+mod tokens;
+
+use std::fs::read_to_string;
+use std::process::exit;
+
+use tokens::{bytes, list, number};
+
+/// The status that stands for `outside`: our number for an address in neither range.
+const OUTSIDE: u64 = 27;
+
+/// A request and its answer, cut into tokens.
+struct Case<'a> {
+    /// SBASE SHEX KBASE KHEX
+    memory: [&'a str; 4],
+    args: Vec<&'a str>,
+    answer: Vec<&'a str>,
+}
+
+type Packed = Option<Vec<u64>>;
+
+fn main() {
+    let args: Vec<String> = std::env::args().skip(1).collect();
+    let [arch, requests, answers] = &args[..] else {
+        stop("usage: pack ARCH REQUESTS ANSWERS");
+    };
+    let arch = number(arch).unwrap_or_else(|| stop("ARCH is no number"));
+    let (requests, answers) = (read(requests), read(answers));
+    if requests.lines().count() != answers.lines().count() {
+        stop("there are not as many answers as requests");
+    }
+    for (request, answer) in requests.lines().zip(answers.lines()) {
+        match pack(arch, request, answer) {
+            Some(line) => println!("{line}"),
+            None => stop(&format!("no packed form of: {request} = {answer}")),
+        }
+    }
+}
+
+fn stop(message: &str) -> ! {
+    eprintln!("pack: {message}");
+    exit(1)
+}
+
+fn read(path: &str) -> String {
+    read_to_string(path).unwrap_or_else(|e| stop(&format!("{path}: {e}")))
+}
+
+fn pack(arch: u64, request: &str, answer: &str) -> Option<String> {
+    let mut tokens = request.split_ascii_whitespace();
+    let memory = [tokens.next()?, tokens.next()?, tokens.next()?, tokens.next()?];
+    let name = tokens.next()?;
+    let answer = answer.split_ascii_whitespace().collect();
+    let (op, rest) = layout(name, &Case { memory, args: tokens.collect(), answer })?;
+    let numbers = [op, arch].into_iter().chain(rest);
+    Some(numbers.map(|n| format!("{n:x}")).collect::<Vec<_>>().join(" "))
+}
+
+/// The operation's number and what follows the architecture. A new operation adds its line here.
+fn layout(name: &str, case: &Case) -> Option<(u64, Vec<u64>)> {
+    Some(match name {
+        "uleb" => (1, uleb(case)?),
+        "get" => (2, get(case)?),
+        "set" => (3, set(case)?),
+        "fp" => (4, file_value(case)?),
+        "sp" => (5, file_value(case)?),
+        "set_sp" => (6, set_sp(case)?),
+        "strip" => (7, strip(case)?),
+        _ => return None,
+    })
+}
+
+/// SBASE SLEN bytes KBASE KLEN bytes POS END STATUS V NEXT
+fn uleb(case: &Case) -> Packed {
+    let mut out = memory(case)?;
+    let [pos, end] = case.args[..] else { return None };
+    out.extend([number(pos)?, number(end)?, status(case)?]);
+    match case.answer[..] {
+        ["uleb", value, next] => out.extend([number(value)?, number(next)?]),
+        _ => out.extend([0, 0]),
+    }
+    Some(out)
+}
+
+/// REG FILE STATUS VALUE
+fn get(case: &Case) -> Packed {
+    let [reg, file] = case.args[..] else { return None };
+    let mut out = vec![number(reg)?];
+    out.extend(list(file)?);
+    out.push(status(case)?);
+    out.push(if refused(case) { 0 } else { value(case)? });
+    Some(out)
+}
+
+/// REG VALUE FILE STATUS FILE', where a refusal leaves the file as it was.
+fn set(case: &Case) -> Packed {
+    let [reg, value, file] = case.args[..] else { return None };
+    let mut out = vec![number(reg)?, number(value)?];
+    out.extend(list(file)?);
+    out.push(status(case)?);
+    out.extend(if refused(case) { list(file)? } else { regs(case)? });
+    Some(out)
+}
+
+/// FILE VALUE
+fn file_value(case: &Case) -> Packed {
+    let [file] = case.args[..] else { return None };
+    let mut out = list(file)?;
+    out.push(value(case)?);
+    Some(out)
+}
+
+/// VALUE FILE FILE'
+fn set_sp(case: &Case) -> Packed {
+    let [value, file] = case.args[..] else { return None };
+    let mut out = vec![number(value)?];
+    out.extend(list(file)?);
+    out.extend(regs(case)?);
+    Some(out)
+}
+
+/// ADDR RESULT
+fn strip(case: &Case) -> Packed {
+    let [addr] = case.args[..] else { return None };
+    Some(vec![number(addr)?, value(case)?])
+}
+
+/// Base, length and bytes of the section, then of the stack.
+fn memory(case: &Case) -> Packed {
+    let mut out = Vec::new();
+    for range in case.memory.chunks(2) {
+        let bytes = bytes(range[1])?;
+        out.extend([number(range[0])?, bytes.len() as u64]);
+        out.extend(bytes.into_iter().map(u64::from));
+    }
+    Some(out)
+}
+
+/// 0 for an answer, else the refusal's number. `bad` and `panic` have none.
+fn status(case: &Case) -> Option<u64> {
+    match case.answer[..] {
+        ["err", n] => number(n),
+        ["outside"] => Some(OUTSIDE),
+        ["bad"] | ["panic"] | [] => None,
+        _ => Some(0),
+    }
+}
+
+fn refused(case: &Case) -> bool {
+    status(case) != Some(0)
+}
+
+fn value(case: &Case) -> Option<u64> {
+    match case.answer[..] {
+        ["value", v] => number(v),
+        _ => None,
+    }
+}
+
+fn regs(case: &Case) -> Packed {
+    match case.answer[..] {
+        ["regs", file] => list(file),
+        _ => None,
+    }
+}

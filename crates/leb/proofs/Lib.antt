@@ -1,0 +1,3 @@
+-- The laws that callers cite, each file named after what it is about.
+pub mod Reader
+pub mod Sofar

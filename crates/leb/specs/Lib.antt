@@ -1,0 +1,3 @@
+-- Unsigned LEB128: the DWARF standard's encoding, and the reader.
+pub mod Encoding
+pub mod Reader

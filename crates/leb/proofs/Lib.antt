@@ -1,3 +1,4 @@
 -- The laws that callers cite, each file named after what it is about.
 pub mod Reader
 pub mod Sofar
+pub mod Meaning

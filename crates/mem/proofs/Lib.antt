@@ -4,3 +4,4 @@ pub mod Place
 pub mod Part
 pub mod Word
 pub mod Loaded
+pub mod Bytes

@@ -1,6 +1,7 @@
 -- Tests that come out alike. Assumes nothing.
 use mathlib.Core.Path.{_≡_, refl, sym, _∙_}
 use mathlib.Core.Bool.{Bool, true, false, _&&_}
+use mathlib.Core.Logic.{_⊎_, inl, inr}
 use Prim.Native.Nat.{ℕ, _≤_, _<_}
 use lib.Dec.{leb}
 use native.Mathlib.Omega.{arith}
@@ -15,6 +16,14 @@ leb-same a b c d f g = go (leb c d) refl
     go false e =
         let no : a ≤ b → ⊥ = λ p. omega (arith, f p, leb-false c d e) in
         lt-leb a b (omega arith) ∙ sym e
+
+-- one of two numbers is the smaller, or they are equal
+pub lt-or-le : (a b : ℕ) → (a < b) ⊎ (b ≤ a)
+lt-or-le a b = go (leb b a) refl
+  where
+    go : (t : Bool) → leb b a ≡ t → (a < b) ⊎ (b ≤ a)
+    go true e = inr (leb-true b a e)
+    go false e = inl (leb-false b a e)
 
 -- both tests of a conjunction hold
 pub both : (s t : Bool) → (s && t) ≡ true → (s ≡ true) × (t ≡ true)

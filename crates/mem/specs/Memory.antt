@@ -1,7 +1,7 @@
 -- What a call is lent.
 use mathlib.Core.List.{List, [], _∷_}
-use Prim.Native.Nat.{ℕ, zero, suc}
-use lib.ListN.{length}
+use Prim.Native.Nat.{ℕ, zero, suc, _<_}
+use lib.ListN.{length, getD}
 
 -- a lent slice of bytes with the address of its first one
 pub record Region : Type 0 where
@@ -21,6 +21,10 @@ abbrev pub bytesOf : Memory → ℕ → List ℕ
 bytesOf [] i = []
 bytesOf (r ∷ m) zero = r .bytes
 bytesOf (r ∷ m) (suc i) = bytesOf m i
+
+-- every byte is below 256, as those of a lent slice are
+abbrev pub Bytes : Memory → Type 0
+Bytes m = (i k : ℕ) → getD (bytesOf m i) k 0 < 256
 
 -- all that a call is lent
 pub record Lent : Type 0 where

@@ -4,7 +4,7 @@ use Prim.Native.Nat.{_-_}
 use native.Mathlib.Omega.{arith}
 use Rattle.mem.specs.Memory.{lent}
 use Rattle.leb.proofs.Sofar.{Sofar, begin, weight-bound, turn, ends, ends-at-limit, ends-outside, over}
-use Rattle.leb.proofs.Reader.{byte-below}
+use Rattle.leb.proofs.Reader.{byte-read}
 use borrow.Author.Needs.{needs}
 use Rattle.leb.proofs.uleb_at.Statement.{statement}
 use Rattle.leb.proofs.uleb_at.Tie as tie
@@ -33,7 +33,7 @@ with-group-requires c κs =
 add-at : tie.Need-add-at Inv-loop μ-loop
 add-at c =
     let read = sym (c .before .before .before .before .byte-at .ensures) ∙ c .before .before .b .given .1 in
-    omega (arith, byte-below _ _ _ _ read, c .before .before .before .before .before .before .before .before .before .fits .limit)
+    omega (arith, byte-read _ _ _ _ read .0, c .before .before .before .before .before .before .before .before .before .fits .limit)
 
 at-most-32-bits-requires : tie.Need-at-most-32-bits-requires Inv-loop μ-loop
 at-most-32-bits-requires c κs = search needs

@@ -63,6 +63,7 @@ column-fits a f reg k = low (ltb reg (a .low)) refl
   where
     none : (A : Type 0) → _≡_ {A = Outcome ℕ} (Refused UnknownRegister) (Answer k) → A
     none A p = let z : _≡_ {A = ℕ} 0 1 = cc in absurd (omega arith)
+
     upper : (s t : Bool) → leb (a .high) reg ≡ s → ltb reg (a .high + a .highCount) ≡ t →
         (if s && t then Answer (a .highColumn + (reg - a .high)) else Refused UnknownRegister) ≡ Answer k → k < columns
     upper true true p q e =
@@ -70,6 +71,7 @@ column-fits a f reg k = low (ltb reg (a .low)) refl
         omega (arith, f .high, leb-true (a .high) reg p, ltb-true reg (a .high + a .highCount) q)
     upper true false p q e = none (k < columns) e
     upper false t p q e = none (k < columns) e
+
     low : (t : Bool) → ltb reg (a .low) ≡ t → columnOf a reg ≡ Answer k → k < columns
     low true p e =
         let there : Answer reg ≡ Answer k = rw p at e in

@@ -28,7 +28,7 @@ inCode a =
       low = a .low;
       high = a .high;
       «high_count» = a .highCount;
-      «high_column» = a .highColumn
+      «high_column» = a .highColumn;
     }
 
 -- a register's column

@@ -45,9 +45,9 @@ aarch64 =
       highColumn = 32;
       addressBits = 48;
       saved =
-        19 ∷ 20 ∷ 21 ∷ 22 ∷ 23 ∷ 24 ∷ 25 ∷ 26 ∷ 27 ∷ 28 ∷ 72 ∷ 73 ∷ 74 ∷ 75 ∷ 76 ∷ 77 ∷ 78 ∷ 79 ∷ [];
+          19 ∷ 20 ∷ 21 ∷ 22 ∷ 23 ∷ 24 ∷ 25 ∷ 26 ∷ 27 ∷ 28 ∷ 72 ∷ 73 ∷ 74 ∷ 75 ∷ 76 ∷ 77 ∷ 78 ∷ 79 ∷ [];
       preserved =
-        19 ∷ 20 ∷ 21 ∷ 22 ∷ 23 ∷ 24 ∷ 25 ∷ 26 ∷ 27 ∷ 28 ∷ 29 ∷ 30 ∷ 72 ∷ 73 ∷ 74 ∷ 75 ∷ 76 ∷ 77 ∷ 78 ∷ 79 ∷ []
+          19 ∷ 20 ∷ 21 ∷ 22 ∷ 23 ∷ 24 ∷ 25 ∷ 26 ∷ 27 ∷ 28 ∷ 29 ∷ 30 ∷ 72 ∷ 73 ∷ 74 ∷ 75 ∷ 76 ∷ 77 ∷ 78 ∷ 79 ∷ [];
     }
 
 -- architecture 2; its register 16 is pc
@@ -66,7 +66,7 @@ x86-64 =
       highColumn = 40;
       addressBits = 64;
       saved = 3 ∷ 12 ∷ 13 ∷ 14 ∷ 15 ∷ [];
-      preserved = 3 ∷ 6 ∷ 12 ∷ 13 ∷ 14 ∷ 15 ∷ []
+      preserved = 3 ∷ 6 ∷ 12 ∷ 13 ∷ 14 ∷ 15 ∷ [];
     }
 
 -- the numbers of architecture 1, and those of 2 for any other number, which no public function lets pass

@@ -8,24 +8,45 @@ ghost use Rattle.arch.specs.Arch as Arch;
 ghost use Rattle.arch.specs.File as File;
 ghost use Rattle.arch.specs.Public as Public;
 ghost use Rattle.arch.specs.Answers.{inCode, columned, valued, next};
-
-use failure::{BAD_OPENING, UNKNOWN_REGISTER};
+use failure::BAD_OPENING;
+use failure::UNKNOWN_REGISTER;
 
 pub const AARCH64: u8 = 1;
+
 pub const X86_64: u8 = 2;
 
 // The registers that a personality routine passes to a landing pad, on both.
 pub const DATA_REG0: u16 = 0;
+
 pub const DATA_REG1: u16 = 1;
 
 // The columns of a register file: 0 to 31 by number, then registers 72 to 79 of aarch64, then pc.
 pub const COLUMNS: usize = 41;
+
 pub const PC_COLUMN: usize = 40;
 
 // The DWARF numbers that the bits of a version 1 mask name, from bit 0.
 const SAVED_AARCH64: [u16; 18] = [
-    19, 20, 21, 22, 23, 24, 25, 26, 27, 28, 72, 73, 74, 75, 76, 77, 78, 79,
+    19,
+    20,
+    21,
+    22,
+    23,
+    24,
+    25,
+    26,
+    27,
+    28,
+    72,
+    73,
+    74,
+    75,
+    76,
+    77,
+    78,
+    79,
 ];
+
 const SAVED_X86_64: [u16; 5] = [3, 12, 13, 14, 15];
 
 // What a state program and a register file mean on one architecture.
@@ -58,6 +79,7 @@ const AARCH64_NUMBERS: Arch2 = Arch2 {
     high_count: 8,
     high_column: 32,
 };
+
 const X86_64_NUMBERS: Arch2 = Arch2 {
     unit: 1,
     sp: 7,
@@ -219,14 +241,23 @@ impl Regs {
         ensures { λ r. ⌜ r ≡ next self (Public.set arch (self .r) reg value) ⌝ }
     {
         if !is_known(arch) {
-            return Next { status: Status::Refused(BAD_OPENING), regs: self };
+            return Next {
+                status: Status::Refused(BAD_OPENING),
+                regs: self,
+            };
         }
         match column_of(arch, reg) {
             Column::At(k) => {
                 self.r[k] = value;
-                Next { status: Status::Done, regs: self }
+                Next {
+                    status: Status::Done,
+                    regs: self,
+                }
             }
-            Column::Unknown => Next { status: Status::Refused(UNKNOWN_REGISTER), regs: self },
+            Column::Unknown => Next {
+                status: Status::Refused(UNKNOWN_REGISTER),
+                regs: self,
+            },
         }
     }
 
@@ -257,11 +288,17 @@ impl Regs {
         ensures { λ r. ⌜ r ≡ next self (Public.setSp arch (self .r) value) ⌝ }
     {
         if !is_known(arch) {
-            return Next { status: Status::Refused(BAD_OPENING), regs: self };
+            return Next {
+                status: Status::Refused(BAD_OPENING),
+                regs: self,
+            };
         }
         let k = sp_column(arch);
         self.r[k] = value;
-        Next { status: Status::Done, regs: self }
+        Next {
+            status: Status::Done,
+            regs: self,
+        }
     }
 
     // pc.

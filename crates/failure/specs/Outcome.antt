@@ -2,7 +2,6 @@
 use Prim.Native.Nat.{ℕ}
 
 infixl 20 _>>=_
-
 -- turned back with a number of document 01, or answered with its values
 pub data Outcome (A : Type 0) : Type 0 where
   Refused : ℕ → Outcome A

@@ -40,7 +40,7 @@ module _ (m : Memory) (limit : ℕ) where
         encodes = more b (r .bytes) v big small (r .encodes);
         short = omega (arith, r .short);
         stand = (l, e, r .stand);
-        after = omega (arith, r .after)
+        after = omega (arith, r .after);
       }
   prepend k pos b l e big small Limit r =
       record {
@@ -48,7 +48,7 @@ module _ (m : Memory) (limit : ℕ) where
         unended = (big, r .unended);
         short = omega (arith, r .short);
         stand = (l, e, r .stand);
-        cut = omega (arith, r .cut)
+        cut = omega (arith, r .cut);
       }
   prepend k pos b l e big small Outside r =
       record {
@@ -58,14 +58,14 @@ module _ (m : Memory) (limit : ℕ) where
         stand = (l, e, r .stand);
         below = omega (arith, r .below);
         nowhere =
-          subst (λ (a : ℕ). load m 1 a ≡ Refused OutsideMemory) (omega arith) (r .nowhere)
+            subst (λ (a : ℕ). load m 1 a ≡ Refused OutsideMemory) (omega arith) (r .nowhere);
       }
   prepend k pos b l e big small TooLarge r =
       record {
         bytes = b ∷ r .bytes;
         unended = (big, r .unended);
         long = omega (arith, r .long);
-        stand = (l, e, r .stand)
+        stand = (l, e, r .stand);
       }
 
   module _ (holds : Bytes m) where
@@ -81,7 +81,7 @@ module _ (m : Memory) (limit : ℕ) where
           short = omega arith;
           stand = tt;
           below = omega (arith, out .0);
-          nowhere = subst (λ (a : ℕ). load m 1 a ≡ Refused OutsideMemory) (sym (add-zero pos)) (out .1)
+          nowhere = subst (λ (a : ℕ). load m 1 a ≡ Refused OutsideMemory) (sym (add-zero pos)) (out .1);
         }
     at-byte k pos (byte.Is b) e u r = go (ltb b 128) refl
       where
@@ -94,7 +94,7 @@ module _ (m : Memory) (limit : ℕ) where
               encodes = last b (ltb-true b 128 p);
               short = omega arith;
               stand = (read .0, read .1, tt);
-              after = refl
+              after = refl;
             })
         go false p =
             let read = byte-read m limit pos b e in
@@ -130,13 +130,13 @@ module _ (m : Memory) (limit : ℕ) where
   encoded-in bs v (last b small) zero pos short stand = absurd (omega arith)
   encoded-in bs v (last b small) (suc k) pos short stand =
       ap (λ (x : Byte). fromByte x pos (ulebIn k m limit (pos + 1))) (reads pos b (stand .0) (stand .1))
-        ∙ simp (lt-ltb b 128 small)
+      ∙ simp (lt-ltb b 128 small)
   encoded-in bs v (more b bs′ v′ big small enc) zero pos short stand = absurd (omega arith)
   encoded-in bs v (more b bs′ v′ big small enc) (suc k) pos short stand =
       ap (λ (x : Byte). fromByte x pos (ulebIn k m limit (pos + 1))) (reads pos b (stand .0) (stand .1))
-        ∙ simp (le-ltb b 128 big)
-        (ap (above (b - 128)) (encoded-in bs′ v′ enc k (pos + 1) (omega arith) (stand .2))
-        ∙ ap (λ (a : ℕ). Is (b - 128 + 128 * v′) a) (omega arith))
+      ∙ simp (le-ltb b 128 big)
+      (ap (above (b - 128)) (encoded-in bs′ v′ enc k (pos + 1) (omega arith) (stand .2))
+      ∙ ap (λ (a : ℕ). Is (b - 128 + 128 * v′) a) (omega arith))
 
   -- what is refused after unended bytes is refused before them
   through : (u : Uleb) → ((low : ℕ) → above low u ≡ u) → (bs : List ℕ) (k pos : ℕ) → Unended bs → Stand m limit pos bs →
@@ -148,10 +148,10 @@ module _ (m : Memory) (limit : ℕ) where
       let one : suc (length bs) + k ≡ suc (length bs + k) = omega arith in
       let place : pos + 1 + length bs ≡ pos + suc (length bs) = omega arith in
       let next : ulebIn (length bs + k) m limit (pos + 1) ≡ u =
-        through u same bs k (pos + 1) (un .1) (stand .2) (ap (λ (a : ℕ). ulebIn k m limit a) place ∙ e) in
+      through u same bs k (pos + 1) (un .1) (stand .2) (ap (λ (a : ℕ). ulebIn k m limit a) place ∙ e) in
       ap (λ (n : ℕ). ulebIn n m limit pos) one
-        ∙ ap (λ (x : Byte). fromByte x pos (ulebIn (length bs + k) m limit (pos + 1))) (reads pos b (stand .0) (stand .1))
-        ∙ simp (le-ltb b 128 (un .0)) (ap (above (b - 128)) next ∙ same (b - 128))
+      ∙ ap (λ (x : Byte). fromByte x pos (ulebIn (length bs + k) m limit (pos + 1))) (reads pos b (stand .0) (stand .1))
+      ∙ simp (le-ltb b 128 (un .0)) (ap (above (b - 128)) next ∙ same (b - 128))
 
   -- fewer than five unended bytes, and then what the next byte is refused with
   refused : (pos : ℕ) (bs : List ℕ) → length bs < 5 → (u : Uleb) → ((low : ℕ) → above low u ≡ u) → Unended bs → Stand m limit pos bs →
@@ -170,7 +170,7 @@ module _ (m : Memory) (limit : ℕ) where
   unfolding ulebAt
   exact pos (Is v next) r =
       ap atMost32Bits (encoded-in (r .0 .bytes) v (r .0 .encodes) 5 pos (r .0 .short) (r .0 .stand))
-        ∙ simp (lt-ltb v (2 ^ 32) (r .1)) (ap (λ (a : ℕ). Is v a) (sym (r .0 .after)))
+      ∙ simp (lt-ltb v (2 ^ 32) (r .1)) (ap (λ (a : ℕ). Is v a) (sym (r .0 .after)))
   exact pos Limit r =
       let end = pos + length (r .bytes) in
       ap atMost32Bits
@@ -188,4 +188,4 @@ module _ (m : Memory) (limit : ℕ) where
       ∙ through TooLarge (λ low. refl) (r .bytes) 0 pos (r .unended) (r .stand) refl)
   exact pos TooLarge (inr r) =
       ap atMost32Bits (encoded-in (r .2 .bytes) (r .0) (r .2 .encodes) 5 pos (r .2 .short) (r .2 .stand))
-        ∙ simp (le-ltb (r .0) (2 ^ 32) (r .3))
+      ∙ simp (le-ltb (r .0) (2 ^ 32) (r .3))

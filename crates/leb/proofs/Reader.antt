@@ -32,6 +32,7 @@ module _ (m : Memory) (limit pos : ℕ) where
       there : (o : Outcome ℕ) → asByte o ≡ Is b → o ≡ Answer b
       there (Refused x) p = cc
       there (Answer v) p = let q : v ≡ b = cc in ap Answer q
+
       go : (t : Bool) → leb limit pos ≡ t → (pos < limit) × (load m 1 pos ≡ Answer b)
       go true p =
           let q : Limit ≡ Is b = rw p at e in
@@ -46,6 +47,7 @@ module _ (m : Memory) (limit pos : ℕ) where
       clash : (o : Outcome ℕ) → asByte o ≡ Limit → ⊥
       clash (Refused x) p = let z : _≡_ {A = ℕ} 0 1 = cc in omega arith
       clash (Answer v) p = let z : _≡_ {A = ℕ} 0 1 = cc in omega arith
+
       go : (t : Bool) → leb limit pos ≡ t → limit ≤ pos
       go true p = leb-true limit pos p
       go false p = absurd (clash (load m 1 pos) (rw p at e))
@@ -57,6 +59,7 @@ module _ (m : Memory) (limit pos : ℕ) where
       none : (o : Outcome ℕ) → load m 1 pos ≡ o → asByte o ≡ Outside → load m 1 pos ≡ Refused OutsideMemory
       none (Refused x) p q = load-refused m 1 pos x p
       none (Answer v) p q = let z : _≡_ {A = ℕ} 0 1 = cc in absurd (omega arith)
+
       go : (t : Bool) → leb limit pos ≡ t → (pos < limit) × (load m 1 pos ≡ Refused OutsideMemory)
       go true p =
           let q : _≡_ {A = Byte} Limit Outside = rw p at e in

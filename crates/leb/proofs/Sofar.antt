@@ -58,7 +58,7 @@ module _ (m : Memory) (limit pos : ℕ) where
     at-byte h b e =
         let n : 5 - i ≡ suc (5 - (i + 1)) = omega arith in
         s .rest ∙ ap (λ (k : ℕ). plus v weight (ulebIn k m limit at)) n
-            ∙ ap (λ (x : Byte). plus v weight (fromByte x at (ulebIn (5 - (i + 1)) m limit (at + 1)))) e
+        ∙ ap (λ (x : Byte). plus v weight (fromByte x at (ulebIn (5 - (i + 1)) m limit (at + 1)))) e
 
     -- a byte with bit 7 set: the next turn
     pub turn : i < 5 → (b : ℕ) → byteAt m limit at ≡ byte.Is b → 128 ≤ b → b < 256 →
@@ -71,10 +71,10 @@ module _ (m : Memory) (limit pos : ℕ) where
           power = ap (λ (k : ℕ). k * 128) (s .power) ∙ sym (pow-suc 128 i) ∙ ap (λ (k : ℕ). 128 ^ k) (sym (add-one i));
           small = omega (arith, s .small);
           rest =
-            at-byte h (byte.Is b) e
+              at-byte h (byte.Is b) e
               ∙ simp (le-ltb b 128 big)
               (plus-above v weight (b - 128) (ulebIn (5 - (i + 1)) m limit (at + 1))
-              ∙ ap (λ (k : ℕ). plus (v + k * weight) (weight * 128) (ulebIn (5 - (i + 1)) m limit (at + 1))) (sym low))
+              ∙ ap (λ (k : ℕ). plus (v + k * weight) (weight * 128) (ulebIn (5 - (i + 1)) m limit (at + 1))) (sym low));
         }
 
     -- a byte with bit 7 clear: the number's end

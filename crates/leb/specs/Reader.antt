@@ -5,13 +5,16 @@ use Prim.Native.Nat.{ℕ, zero, suc, _+_, _-_, _*_, _^_}
 use lib.Dec.{leb, ltb}
 use Rattle.failure.specs.Choice.{if_then_else_}
 use Rattle.failure.specs.Outcome.{Outcome, Refused, Answer}
-use Rattle.failure.specs.Failure.{BadEkoRecord, OutsideMemory}
-use Rattle.mem.specs.Memory.{Memory}
+use Rattle.failure.specs.Failure.{BadEkoRecord, OutsideMemory, BadOpening}
+use Rattle.mem.specs.Memory.{Memory, Lent}
+use Rattle.mem.specs.Opening.{opens}
 use Rattle.mem.specs.Word.{load}
 use Rattle.leb.specs.declared.Byte.{Byte}
 use Rattle.leb.specs.declared.Byte.the-variants as byte
 use Rattle.leb.specs.declared.Uleb.{Uleb}
-use Rattle.leb.specs.declared.Uleb.the-variants as uleb
+use Rattle.leb.specs.declared.Uleb.the-variants as variant
+use Rattle.leb.specs.declared.Number.{Number}
+use Rattle.leb.specs.declared.Number.the-variants as number
 
 -- a byte read, as a Byte
 abbrev pub asByte : Outcome ℕ → Byte
@@ -24,47 +27,56 @@ byteAt m limit pos = if leb limit pos then byte.Limit else asByte (load m 1 pos)
 
 -- a number whose lowest group is low, above what was read after it
 abbrev pub above : ℕ → Uleb → Uleb
-above low (uleb.Is v next) = uleb.Is (low + 128 * v) next
-above low uleb.Limit = uleb.Limit
-above low uleb.TooLarge = uleb.TooLarge
-above low uleb.Outside = uleb.Outside
+above low (variant.Is v next) = variant.Is (low + 128 * v) next
+above low variant.Limit = variant.Limit
+above low variant.TooLarge = variant.TooLarge
+above low variant.Outside = variant.Outside
 
 -- what a byte at pos comes to, given what stands after it
 abbrev pub fromByte : Byte → ℕ → Uleb → Uleb
-fromByte byte.Limit pos rest = uleb.Limit
-fromByte byte.Outside pos rest = uleb.Outside
-fromByte (byte.Is b) pos rest = if ltb b 128 then uleb.Is b (pos + 1) else above (b - 128) rest
+fromByte byte.Limit pos rest = variant.Limit
+fromByte byte.Outside pos rest = variant.Outside
+fromByte (byte.Is b) pos rest = if ltb b 128 then variant.Is b (pos + 1) else above (b - 128) rest
 
 -- the number at pos, in at most so many bytes
 abbrev pub ulebIn : ℕ → Memory → ℕ → ℕ → Uleb
-ulebIn zero m limit pos = uleb.TooLarge
+ulebIn zero m limit pos = variant.TooLarge
 ulebIn (suc k) m limit pos = fromByte (byteAt m limit pos) pos (ulebIn k m limit (pos + 1))
 
 -- a number of at most 2^32 - 1
 abbrev pub atMost32Bits : Uleb → Uleb
-atMost32Bits (uleb.Is v next) = if ltb v (2 ^ 32) then uleb.Is v next else uleb.TooLarge
-atMost32Bits uleb.Limit = uleb.Limit
-atMost32Bits uleb.TooLarge = uleb.TooLarge
-atMost32Bits uleb.Outside = uleb.Outside
+atMost32Bits (variant.Is v next) = if ltb v (2 ^ 32) then variant.Is v next else variant.TooLarge
+atMost32Bits variant.Limit = variant.Limit
+atMost32Bits variant.TooLarge = variant.TooLarge
+atMost32Bits variant.Outside = variant.Outside
 
 -- the number at pos, and the address after it
 unfoldable pub ulebAt : Memory → ℕ → ℕ → Uleb
 ulebAt m limit pos = atMost32Bits (ulebIn 5 m limit pos)
 
 -- a number and the address after it
-pub record Number : Type 0 where
+pub record Read : Type 0 where
   pub value : ℕ
   pub next : ℕ
 
 -- document 01's number and values for each case of a Uleb: the limit met and a number too long or too large are both 18
-abbrev pub numbered : Uleb → Outcome Number
-numbered (uleb.Is v next) = Answer (record { value = v; next = next })
-numbered uleb.Limit = Refused BadEkoRecord
-numbered uleb.TooLarge = Refused BadEkoRecord
-numbered uleb.Outside = Refused OutsideMemory
+abbrev pub numbered : Uleb → Outcome Read
+numbered (variant.Is v next) = Answer (record { value = v; next = next })
+numbered variant.Limit = Refused BadEkoRecord
+numbered variant.TooLarge = Refused BadEkoRecord
+numbered variant.Outside = Refused OutsideMemory
 
 -- document 01's number and value for each case of a Byte
 abbrev pub numberedByte : Byte → Outcome ℕ
 numberedByte (byte.Is b) = Answer b
 numberedByte byte.Limit = Refused BadEkoRecord
 numberedByte byte.Outside = Refused OutsideMemory
+
+-- and for each case of a Number
+abbrev pub told : Number → Outcome Read
+told (number.Is v next) = Answer (record { value = v; next = next })
+told (number.Refused n) = Refused n
+
+-- the number at pos in what is lent: 28 first
+unfoldable pub readUleb : Lent → ℕ → ℕ → Outcome Read
+readUleb l limit pos = if opens l then numbered (ulebAt (l .regions) limit pos) else Refused BadOpening

@@ -1,12 +1,15 @@
 // Bytes and unsigned LEB128 numbers at an address, up to a limit: ps-unwind's `Bytes`, by value.
-// `byte_at` and `uleb_at` are for the crates above, which have tested what is lent; `uleb` is the public form.
+// `byte_at` and `uleb_at` are for the crates above, which have tested what is lent; `read_uleb` is the public form.
 ghost use mathlib.Core.Path.{_≡_};
 ghost use Prim.Native.Nat.{_+_, _*_, _%_, _<_, _≤_};
 ghost use Rattle.mem.specs.Memory.{lent};
 ghost use Rattle.leb.specs.Reader as Reader;
-
+use failure::BAD_EKO_RECORD;
+use failure::BAD_OPENING;
+use failure::OUTSIDE_MEMORY;
 use mem::load;
 use mem::load::Word;
+use mem::opening;
 
 // The byte at a position, the limit met before it, or no memory there.
 pub enum Byte {
@@ -23,6 +26,12 @@ pub enum Uleb {
     Outside,
 }
 
+// A number and the position after it, or a refusal.
+pub enum Number {
+    Is(usize, usize),
+    Refused(u32),
+}
+
 // The byte at a position below the limit.
 pub fn byte_at<'a>(
     section: &'a [u8],
@@ -32,12 +41,10 @@ pub fn byte_at<'a>(
     pos: usize,
     limit: usize,
 ) -> Byte
-    ensures {
-        λ r. ⌜
-            r ≡
-            Reader.byteAt (lent (now (section .entry)) «section_base» (now (stack .entry)) «stack_base» .regions) limit pos
-        ⌝
-    }
+    ensures { λ r. ⌜
+        r ≡
+        Reader.byteAt (lent (now (section .entry)) «section_base» (now (stack .entry)) «stack_base» .regions) limit pos
+        ⌝ }
 {
     if limit <= pos {
         return Byte::Limit;
@@ -75,12 +82,10 @@ pub fn uleb_at<'a>(
     pos: usize,
     limit: usize,
 ) -> Uleb
-    ensures {
-        λ r. ⌜
-            r ≡
-            Reader.ulebAt (lent (now (section .entry)) «section_base» (now (stack .entry)) «stack_base» .regions) limit pos
-        ⌝
-    }
+    ensures { λ r. ⌜
+        r ≡
+        Reader.ulebAt (lent (now (section .entry)) «section_base» (now (stack .entry)) «stack_base» .regions) limit pos
+        ⌝ }
 {
     let mut v: usize = 0;
     let mut weight: usize = 1;
@@ -102,4 +107,36 @@ pub fn uleb_at<'a>(
         i += 1;
     }
     Uleb::TooLarge
+}
+
+// A number as document 01 answers it: the limit met and a number too long or too large are both 18.
+pub fn folded(u: Uleb) -> Number
+    ensures { λ r. ⌜ Reader.told r ≡ Reader.numbered u ⌝ }
+{
+    match u {
+        Uleb::Is(v, next) => Number::Is(v, next),
+        Uleb::Limit => Number::Refused(BAD_EKO_RECORD),
+        Uleb::TooLarge => Number::Refused(BAD_EKO_RECORD),
+        Uleb::Outside => Number::Refused(OUTSIDE_MEMORY),
+    }
+}
+
+// The number at a position below the limit, in what is lent.
+pub fn read_uleb<'a>(
+    section: &'a [u8],
+    section_base: usize,
+    stack: &'a [u8],
+    stack_base: usize,
+    pos: usize,
+    limit: usize,
+) -> Number
+    ensures { λ r. ⌜
+        Reader.told r ≡
+        Reader.readUleb (lent (now (section .entry)) «section_base» (now (stack .entry)) «stack_base») limit pos
+        ⌝ }
+{
+    if !opening::opens(section, section_base, stack, stack_base) {
+        return Number::Refused(BAD_OPENING);
+    }
+    folded(uleb_at(section, section_base, stack, stack_base, pos, limit))
 }

@@ -48,9 +48,10 @@ bytes-there m h a n bs e = go (placeOf m a n) refl
     go (Answer s) p =
         let f = place-found m a n s p in
         let q : Answer (take n (drop (s .offset) (bytesOf m (s .region)))) ≡ Answer bs = sym (f .1) ∙ e in
-        let is : take n (drop (s .offset) (bytesOf m (s .region))) ≡ bs = cc in
-        (ap length (sym is) ∙ simp (length-take, length-drop) (omega (arith, f .0)),
-          subst (λ (l : List ℕ). (k : ℕ) → getD l k 0 < 256) is (part-bytes n (s .offset) (bytesOf m (s .region)) (λ k. h (s .region) k)))
+        let is : take n (drop (s .offset) (bytesOf m (s .region))) ≡ bs = cc in (
+          ap length (sym is) ∙ simp (length-take, length-drop) (omega (arith, f .0)),
+          subst (λ (l : List ℕ). (k : ℕ) → getD l k 0 < 256) is (part-bytes n (s .offset) (bytesOf m (s .region)) (λ k. h (s .region) k)),
+        )
 
 -- a number loaded from n bytes is below 256 ^ n
 pub load-below : (m : Memory) → Bytes m → (n a v : ℕ) → load m n a ≡ Answer v → v < 256 ^ n

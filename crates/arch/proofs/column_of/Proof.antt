@@ -27,11 +27,12 @@ cast-t7 c = search needs
 add-t8 : tie.Need-add-t8
 add-t8 c =
     let e = c .before .before .before .before .before .before .before .before .numbers .ensures in
-    omega
-    (arith,
+    omega (
+      arith,
       ap (λ (r : Arch2). r .«high_column») e,
       ap (λ (r : Arch2). r .«high_count») e,
-      fits (c .before .before .before .before .before .before .before .before .before .args .arch) .high)
+      fits (c .before .before .before .before .before .before .before .before .before .args .arch) .high,
+    )
 
 returns-4 : tie.Need-returns-4
 returns-4 c =

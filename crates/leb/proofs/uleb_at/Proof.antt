@@ -43,10 +43,10 @@ returns c =
     let group = c .before .before in
     let at = group .before .before .before .before in
     c .at-most-32-bits .ensures
-      ∙ rw (group .with-group .ensures .0)
-      (ends _ _ _ _ _ _ _ (at .before .before .loop .inv) (at .before .loop-test .taken) _
-      (sym (at .byte-at .ensures) ∙ group .before .before .b .given .1)
-      (c .before .if1 .taken))
+    ∙ rw (group .with-group .ensures .0)
+    (ends _ _ _ _ _ _ _ (at .before .before .loop .inv) (at .before .loop-test .taken) _
+    (sym (at .byte-at .ensures) ∙ group .before .before .b .given .1)
+    (c .before .if1 .taken))
 
 enum-told : tie.Need-enum-told Inv-loop μ-loop
 enum-told c = search needs

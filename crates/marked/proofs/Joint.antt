@@ -1,0 +1,11 @@
+-- Every marked example of document 01 follows from the definitions. Assumes nothing.
+use mathlib.Core.Path.{refl}
+use Rattle.mem.specs.Place.{holds, bytesAt}
+use Rattle.mem.specs.Word.{load}
+use Rattle.leb.specs.Reader.{byteAt, ulebAt}
+use Rattle.marked.specs.Example.{Hold}
+use Rattle.marked.specs.Table.{table}
+
+pub examples-hold : Hold table
+unfolding holds bytesAt load byteAt ulebAt
+examples-hold = (refl, (refl, (refl, (refl, (refl, (refl, tt))))))

@@ -1,0 +1,35 @@
+-- What an example says: a definition's value at the example's bytes. A later module adds a kind of example and what it says.
+use mathlib.Core.Path.{_≡_}
+use mathlib.Core.List.{List, [], _∷_}
+use Prim.Native.Nat.{ℕ, _+_}
+use lib.ListN.{length}
+use Rattle.failure.specs.Outcome.{Outcome, Refused, Answer, _>>=_}
+use Rattle.mem.specs.Memory.{Memory, lent}
+use Rattle.leb.specs.Reader.{ulebAt, numbered}
+
+-- where the examples' bytes stand
+abbrev pub base : ℕ
+base = 0x1000
+
+-- a section of these bytes, and an empty stack
+abbrev pub section : List ℕ → Memory
+section bytes = lent bytes base [] 1 .regions
+
+pub data Example : Type 0 where
+  -- the bytes of a uleb, and its value or refusal
+  uleb : List ℕ → Outcome ℕ → Example
+
+-- the value of the uleb at the start of the bytes, which end at the limit
+abbrev pub ulebValue : List ℕ → Outcome ℕ
+ulebValue bytes = do
+  read ← numbered (ulebAt (section bytes) (base + length bytes) base)
+  Answer (read .value)
+
+-- the example is right
+abbrev pub Holds : Example → Type 0
+Holds (uleb bytes answer) = ulebValue bytes ≡ answer
+
+-- each of them is right
+abbrev pub Hold : List Example → Type 0
+Hold [] = Unit
+Hold (e ∷ es) = Holds e × Hold es

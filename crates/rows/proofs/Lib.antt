@@ -1,0 +1,4 @@
+-- Laws of the row tables, each file named after what it is about.
+pub mod Entries
+pub mod Halving
+pub mod Rows2

@@ -1,0 +1,18 @@
+-- `rows::handler2::number` meets its contract. Assumes nothing.
+use mathlib.Core.Path.{refl, sym, _∙_, ap}
+use Rattle.leb.specs.Reader.{numbered}
+use borrow.Author.Needs.{needs}
+use Rattle.rows.proofs.handler2.number.Statement.{statement}
+use Rattle.rows.proofs.handler2.number.Tie as tie
+
+uleb-at-requires : tie.Need-uleb-at-requires
+uleb-at-requires c κs = search needs
+
+folded-requires : tie.Need-folded-requires
+folded-requires c κs = search needs
+
+returns : tie.Need-returns
+returns c = c .folded .ensures ∙ ap numbered (c .before .uleb-at .ensures)
+
+pub number-spec : {M : Type 1} → statement M
+number-spec = tie.close (tie.spec uleb-at-requires folded-requires returns)

@@ -1,0 +1,233 @@
+// Version 1 row tables: ps-unwind's `handler`; its closure `row` is `entry_at`.
+ghost use mathlib.Core.Path.{_≡_};
+ghost use Prim.Native.Nat.{_^_, _<_, _≤_};
+ghost use Rattle.mem.specs.Memory.{lent};
+ghost use Rattle.rows.specs.Row.{found};
+ghost use Rattle.rows.specs.Handler as Handler;
+ghost use Rattle.rows.specs.Answers.{entry, breaks};
+use crate::Row;
+use crate::checked;
+use failure::BAD_OPENING;
+use failure::EKO_AMBIGUOUS_CALL_SITE;
+use failure::OUTSIDE_MEMORY;
+use mem::load;
+use mem::load::Word;
+use mem::opening;
+use mem::wrapping;
+
+// A row as it stands in the table (return offset, pad, action), or no memory there.
+pub enum Entry {
+    Is(usize, usize, usize),
+    Outside,
+}
+
+// Whether a neighbour breaks the order of rows, or no memory there.
+pub enum Order {
+    Keeps,
+    Breaks,
+    Outside,
+}
+
+// Row i of the table.
+fn entry_at<'a>(
+    section: &'a [u8],
+    section_base: usize,
+    stack: &'a [u8],
+    stack_base: usize,
+    table: usize,
+    i: usize,
+) -> Entry
+    requires { ⌜ i < 2 ^ 32 ⌝ }
+    ensures { λ r. ⌜ entry r ≡ Handler.entryAt (lent (now (section .entry)) «section_base» (now (stack .entry)) «stack_base» .regions) table i ⌝ }
+{
+    let offset_at = wrapping::add(table, 4 + 12 * i);
+    let Word::Value(offset) = load::load_u32(section, section_base, stack, stack_base, offset_at)
+    else {
+        return Entry::Outside;
+    };
+    let pad_at = wrapping::add(table, 8 + 12 * i);
+    let Word::Value(pad) = load::load_u32(section, section_base, stack, stack_base, pad_at) else {
+        return Entry::Outside;
+    };
+    let action_at = wrapping::add(table, 12 + 12 * i);
+    let Word::Value(action) = load::load_u32(section, section_base, stack, stack_base, action_at)
+    else {
+        return Entry::Outside;
+    };
+    Entry::Is(offset, pad, action)
+}
+
+// Whether the left neighbour, if there is one, is not below the row.
+fn left_breaks<'a>(
+    section: &'a [u8],
+    section_base: usize,
+    stack: &'a [u8],
+    stack_base: usize,
+    table: usize,
+    i: usize,
+    offset: usize,
+) -> Order
+    requires { ⌜ i < 2 ^ 32 ⌝ }
+    ensures { λ r. ⌜ breaks r ≡ Handler.leftBreaks (lent (now (section .entry)) «section_base» (now (stack .entry)) «stack_base» .regions) table i offset ⌝ }
+{
+    if i == 0 {
+        return Order::Keeps;
+    }
+    let Entry::Is(left, _, _) = entry_at(section, section_base, stack, stack_base, table, i - 1)
+    else {
+        return Order::Outside;
+    };
+    if offset <= left {
+        return Order::Breaks;
+    }
+    Order::Keeps
+}
+
+// Whether the right neighbour, if there is one, is not above the row.
+fn right_breaks<'a>(
+    section: &'a [u8],
+    section_base: usize,
+    stack: &'a [u8],
+    stack_base: usize,
+    table: usize,
+    count: usize,
+    i: usize,
+    offset: usize,
+) -> Order
+    requires { ⌜ (i < count) × (count < 2 ^ 32) ⌝ }
+    ensures { λ r. ⌜ breaks r ≡ Handler.rightBreaks (lent (now (section .entry)) «section_base» (now (stack .entry)) «stack_base» .regions) table count i offset ⌝ }
+{
+    if i + 1 < count {
+        let Entry::Is(right, _, _) = entry_at(
+            section,
+            section_base,
+            stack,
+            stack_base,
+            table,
+            i + 1,
+        ) else {
+            return Order::Outside;
+        };
+        if right <= offset {
+            return Order::Breaks;
+        }
+        return Order::Keeps;
+    }
+    Order::Keeps
+}
+
+// A row that was found: its neighbours, left first, and then the row itself.
+fn judged<'a>(
+    section: &'a [u8],
+    section_base: usize,
+    stack: &'a [u8],
+    stack_base: usize,
+    table: usize,
+    count: usize,
+    i: usize,
+    offset: usize,
+    pad: usize,
+    action: usize,
+) -> Row
+    requires { ⌜ (i < count) × (count < 2 ^ 32) ⌝ }
+    ensures { λ r. ⌜
+        found r ≡
+        Handler.judged (lent (now (section .entry)) «section_base» (now (stack .entry)) «stack_base» .regions) table count i (Handler.row offset pad action)
+        ⌝ }
+{
+    match left_breaks(section, section_base, stack, stack_base, table, i, offset) {
+        Order::Outside => return Row::Refused(OUTSIDE_MEMORY),
+        Order::Breaks => return Row::Refused(EKO_AMBIGUOUS_CALL_SITE),
+        Order::Keeps => {}
+    }
+    match right_breaks(
+        section,
+        section_base,
+        stack,
+        stack_base,
+        table,
+        count,
+        i,
+        offset,
+    ) {
+        Order::Outside => return Row::Refused(OUTSIDE_MEMORY),
+        Order::Breaks => return Row::Refused(EKO_AMBIGUOUS_CALL_SITE),
+        Order::Keeps => {}
+    }
+    checked(pad, action)
+}
+
+// The row of a return offset in the table.
+pub fn handler_at<'a>(
+    section: &'a [u8],
+    section_base: usize,
+    stack: &'a [u8],
+    stack_base: usize,
+    table: usize,
+    ret: usize,
+) -> Row
+    ensures { λ r. ⌜ found r ≡ Handler.handler (lent (now (section .entry)) «section_base» (now (stack .entry)) «stack_base» .regions) table ret ⌝ }
+{
+    let Word::Value(count) = load::load_u32(section, section_base, stack, stack_base, table) else {
+        return Row::Refused(OUTSIDE_MEMORY);
+    };
+    let mut lo: usize = 0;
+    let mut hi = count;
+    while lo < hi {
+        let mid = lo + (hi - lo) / 2;
+        let Entry::Is(offset, pad, action) = entry_at(
+            section,
+            section_base,
+            stack,
+            stack_base,
+            table,
+            mid,
+        ) else {
+            return Row::Refused(OUTSIDE_MEMORY);
+        };
+        if offset == ret {
+            return judged(
+                section,
+                section_base,
+                stack,
+                stack_base,
+                table,
+                count,
+                mid,
+                offset,
+                pad,
+                action,
+            );
+        }
+        if offset < ret {
+            lo = mid + 1;
+        } else {
+            hi = mid;
+        }
+    }
+    Row::None
+}
+
+// The same in what is lent.
+pub fn handler<'a>(
+    section: &'a [u8],
+    section_base: usize,
+    stack: &'a [u8],
+    stack_base: usize,
+    table: usize,
+    ret: u32,
+) -> Row
+    ensures { λ r. ⌜ found r ≡ Handler.handlerIn (lent (now (section .entry)) «section_base» (now (stack .entry)) «stack_base») table ret ⌝ }
+{
+    if !opening::opens(section, section_base, stack, stack_base) {
+        return Row::Refused(BAD_OPENING);
+    }
+    handler_at(
+        section,
+        section_base,
+        stack,
+        stack_base,
+        table,
+        ret as usize,
+    )
+}

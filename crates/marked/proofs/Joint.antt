@@ -3,9 +3,11 @@ use mathlib.Core.Path.{refl}
 use Rattle.mem.specs.Place.{holds, bytesAt}
 use Rattle.mem.specs.Word.{load}
 use Rattle.leb.specs.Reader.{byteAt, ulebAt}
+use Rattle.rows.specs.Row.{valid, checked}
+use Rattle.rows.specs.Handler2.{nextBreaks, matched, handler2}
 use Rattle.marked.specs.Example.{Hold}
 use Rattle.marked.specs.Table.{table}
 
 pub examples-hold : Hold table
-unfolding holds bytesAt load byteAt ulebAt
-examples-hold = (refl, (refl, (refl, (refl, (refl, (refl, tt))))))
+unfolding holds bytesAt load byteAt ulebAt valid checked nextBreaks matched handler2
+examples-hold = (refl, (refl, (refl, (refl, (refl, (refl, (refl, (refl, (refl, tt)))))))))

@@ -6,6 +6,8 @@ use lib.ListN.{length}
 use Rattle.failure.specs.Outcome.{Outcome, Refused, Answer, _>>=_}
 use Rattle.mem.specs.Memory.{Memory, lent}
 use Rattle.leb.specs.Reader.{ulebAt, numbered}
+use Rattle.rows.specs.Row.{Found}
+use Rattle.rows.specs.Handler2.{handler2}
 
 -- where the examples' bytes stand
 abbrev pub base : ℕ
@@ -18,6 +20,8 @@ section bytes = lent bytes base [] 1 .regions
 pub data Example : Type 0 where
   -- the bytes of a uleb, and its value or refusal
   uleb : List ℕ → Outcome ℕ → Example
+  -- the bytes of a version 2 row table, a return offset, and its row
+  rows : List ℕ → ℕ → Outcome Found → Example
 
 -- the value of the uleb at the start of the bytes, which end at the limit
 abbrev pub ulebValue : List ℕ → Outcome ℕ
@@ -28,6 +32,7 @@ ulebValue bytes = do
 -- the example is right
 abbrev pub Holds : Example → Type 0
 Holds (uleb bytes answer) = ulebValue bytes ≡ answer
+Holds (rows bytes offset answer) = handler2 (section bytes) base (base + length bytes) offset ≡ answer
 
 -- each of them is right
 abbrev pub Hold : List Example → Type 0

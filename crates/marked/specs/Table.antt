@@ -1,7 +1,8 @@
 -- The table of the marked examples, in document 01's order.
 use mathlib.Core.List.{List, [], _∷_}
 use Rattle.failure.specs.Outcome.{Refused, Answer}
-use Rattle.marked.specs.Example.{Example, uleb}
+use Rattle.rows.specs.Row.{None, Pad, cleanup, catch}
+use Rattle.marked.specs.Example.{Example, uleb, rows}
 
 abbrev pub table : List Example
 table =
@@ -11,4 +12,7 @@ table =
     ∷ uleb (0xff ∷ 0xff ∷ 0xff ∷ 0xff ∷ 0x0f ∷ []) (Answer 4294967295)
     ∷ uleb (0xff ∷ 0xff ∷ 0xff ∷ 0xff ∷ 0x1f ∷ []) (Refused 18)
     ∷ uleb (0x80 ∷ 0x80 ∷ 0x80 ∷ 0x80 ∷ 0x80 ∷ []) (Refused 18)
+    ∷ rows (0x02 ∷ 0x05 ∷ 0x29 ∷ 0x03 ∷ 0x40 ∷ []) 5 (Answer (Pad 10 catch))
+    ∷ rows (0x02 ∷ 0x05 ∷ 0x29 ∷ 0x03 ∷ 0x40 ∷ []) 8 (Answer (Pad 16 cleanup))
+    ∷ rows (0x02 ∷ 0x05 ∷ 0x29 ∷ 0x03 ∷ 0x40 ∷ []) 6 (Answer None)
     ∷ []

@@ -2,3 +2,5 @@
 pub mod Entries
 pub mod Halving
 pub mod Rows2
+pub mod Rising
+pub mod Prefix

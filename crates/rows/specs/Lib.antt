@@ -2,4 +2,5 @@
 pub mod Row
 pub mod Handler
 pub mod Handler2
+pub mod Prefix
 pub mod Answers

@@ -1,0 +1,2 @@
+-- What the definitions of the numbers come to.
+pub mod Causes

@@ -1,8 +1,13 @@
 //! generate MODULE ARCH: prints requests of the line protocol, in every run the same ones.
 
+mod apply;
+mod file;
+mod lookup;
 mod memory;
+mod program;
 mod random;
 mod registers;
+mod step;
 mod uleb;
 
 use std::collections::HashSet;
@@ -20,7 +25,7 @@ fn main() {
         _ => None,
     };
     let Some(list) = list else {
-        eprintln!("usage: generate MODULE ARCH, where MODULE is foundation and ARCH 1 or 2");
+        eprintln!("usage: generate MODULE ARCH, where MODULE is foundation, lookup, frame or program and ARCH 1 or 2");
         exit(2);
     };
     let mut seen = HashSet::new();
@@ -34,6 +39,9 @@ fn requests(module: &str, arch: u64) -> Option<Vec<String>> {
     let random = &mut Random::new(SEED ^ arch);
     match module {
         "foundation" => Some(foundation(arch, random)),
+        "lookup" => Some(lookup::requests(arch, random)),
+        "frame" => Some(frame(arch, random)),
+        "program" => Some(program::requests(random)),
         _ => None,
     }
 }
@@ -41,5 +49,11 @@ fn requests(module: &str, arch: u64) -> Option<Vec<String>> {
 fn foundation(arch: u64, random: &mut Random) -> Vec<String> {
     let mut list = uleb::requests(random);
     list.extend(registers::requests(arch, random));
+    list
+}
+
+fn frame(arch: u64, random: &mut Random) -> Vec<String> {
+    let mut list = apply::requests(arch, random);
+    list.extend(step::requests(arch, random));
     list
 }

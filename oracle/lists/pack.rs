@@ -12,8 +12,12 @@ use tokens::{bytes, list, number};
 /// The status that stands for `outside`: our number for an address in neither range.
 const OUTSIDE: u64 = 27;
 
+/// The status that stands for `none`: no record, and no refusal.
+const NONE: u64 = 0xff;
+
 /// A request and its answer, cut into tokens.
 struct Case<'a> {
+    arch: u64,
     /// SBASE SHEX KBASE KHEX
     memory: [&'a str; 4],
     args: Vec<&'a str>,
@@ -54,7 +58,7 @@ fn pack(arch: u64, request: &str, answer: &str) -> Option<String> {
     let memory = [tokens.next()?, tokens.next()?, tokens.next()?, tokens.next()?];
     let name = tokens.next()?;
     let answer = answer.split_ascii_whitespace().collect();
-    let (op, rest) = layout(name, &Case { memory, args: tokens.collect(), answer })?;
+    let (op, rest) = layout(name, &Case { arch, memory, args: tokens.collect(), answer })?;
     let numbers = [op, arch].into_iter().chain(rest);
     Some(numbers.map(|n| format!("{n:x}")).collect::<Vec<_>>().join(" "))
 }
@@ -69,6 +73,12 @@ fn layout(name: &str, case: &Case) -> Option<(u64, Vec<u64>)> {
         "sp" => (5, file_value(case)?),
         "set_sp" => (6, set_sp(case)?),
         "strip" => (7, strip(case)?),
+        "lookup" => (8, lookup(case)?),
+        "run" => (9, run(case)?),
+        "save" => (10, changed(case, 2)?),
+        "restore" => (11, changed(case, 1)?),
+        "apply" => (12, apply(case)?),
+        "step" => (13, step(case)?),
         _ => return None,
     })
 }
@@ -126,6 +136,105 @@ fn set_sp(case: &Case) -> Packed {
 fn strip(case: &Case) -> Packed {
     let [addr] = case.args[..] else { return None };
     Some(vec![number(addr)?, value(case)?])
+}
+
+/// SBASE SLEN bytes KBASE KLEN bytes PROGRAM LIMIT OFF STATUS STATE AFTER, where a refusal has the entry state and 0.
+fn run(case: &Case) -> Packed {
+    let mut out = memory(case)?;
+    let [program, limit, off] = case.args[..] else { return None };
+    out.extend([number(program)?, number(limit)?, number(off)?, status(case)?]);
+    match case.answer[..] {
+        ["state", fp, units, count, pairs, after] => {
+            out.extend(state(&[fp, units, count, pairs])?);
+            out.push(number(after)?);
+        }
+        _ if case.arch == 1 => out.extend([0, 0, 0, 0, 0]),
+        _ => out.extend([0, 1, 1, 1, 16, 1, 0]),
+    }
+    Some(out)
+}
+
+/// STATE, the so many numbers after it, STATUS STATE', where a refusal leaves the state as it was.
+fn changed(case: &Case, numbers: usize) -> Packed {
+    let (before, rest) = case.args.split_at_checked(4)?;
+    if rest.len() != numbers {
+        return None;
+    }
+    let mut out = state(before)?;
+    for token in rest {
+        out.push(number(token)?);
+    }
+    out.push(status(case)?);
+    match &case.answer[..] {
+        ["state", after @ ..] => out.extend(state(after)?),
+        _ => out.extend(state(before)?),
+    }
+    Some(out)
+}
+
+/// FP UNITS COUNT N and N pairs: all after them are 0 0.
+fn state(tokens: &[&str]) -> Packed {
+    let [fp, units, count, pairs] = tokens[..] else { return None };
+    let mut numbers = Vec::new();
+    for pair in pairs.split(',').filter(|pair| *pair != "-") {
+        let (reg, slot) = pair.split_once(':')?;
+        numbers.extend([number(reg)?, number(slot)?]);
+    }
+    while numbers.ends_with(&[0, 0]) && numbers.len() % 2 == 0 {
+        numbers.truncate(numbers.len() - 2);
+    }
+    let mut out = vec![number(fp)?, number(units)?, number(count)?, numbers.len() as u64 / 2];
+    out.extend(numbers);
+    Some(out)
+}
+
+/// SBASE SLEN bytes KBASE KLEN bytes FP UNITS COUNT N and N pairs FILE STATUS FILE', where a refusal leaves the file as it was.
+fn apply(case: &Case) -> Packed {
+    let mut out = memory(case)?;
+    let [fp, units, count, pairs, file] = case.args[..] else { return None };
+    out.extend([number(fp)?, number(units)?, number(count)?]);
+    let pairs: Vec<&str> = if pairs == "-" { Vec::new() } else { pairs.split(',').collect() };
+    out.push(pairs.len() as u64);
+    for pair in pairs {
+        let (reg, slot) = pair.split_once(':')?;
+        out.extend([number(reg)?, number(slot)?]);
+    }
+    caller(case, file, out)
+}
+
+/// SBASE SLEN bytes KBASE KLEN bytes FRAME FIRST FILE STATUS FILE', where a refusal leaves the file as it was.
+fn step(case: &Case) -> Packed {
+    let mut out = memory(case)?;
+    let [frame, first, file] = case.args[..] else { return None };
+    out.extend([number(frame)?, number(first)?]);
+    caller(case, file, out)
+}
+
+/// FILE STATUS FILE'
+fn caller(case: &Case, file: &str, mut out: Vec<u64>) -> Packed {
+    out.extend(list(file)?);
+    out.push(status(case)?);
+    out.extend(if refused(case) { list(file)? } else { regs(case)? });
+    Some(out)
+}
+
+/// SBASE SLEN bytes KBASE KLEN bytes PC STATUS START END FRAME HANDLERS PROGRAM LIMIT VERSION
+fn lookup(case: &Case) -> Packed {
+    let mut out = memory(case)?;
+    let [pc] = case.args[..] else { return None };
+    out.push(number(pc)?);
+    match &case.answer[..] {
+        ["rec", fields @ ..] if fields.len() == 7 => {
+            out.push(0);
+            for field in fields {
+                out.push(number(field)?);
+            }
+        }
+        ["none"] => out.extend([NONE, 0, 0, 0, 0, 0, 0, 0]),
+        _ if refused(case) => out.extend([status(case)?, 0, 0, 0, 0, 0, 0, 0]),
+        _ => return None,
+    }
+    Some(out)
 }
 
 /// Base, length and bytes of the section, then of the stack.

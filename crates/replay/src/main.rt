@@ -9,6 +9,9 @@ use arch::Status;
 use arch::Value;
 use leb::Number;
 use libc::STDOUT_FILENO;
+use lookup::Lookup;
+use lookup::Record;
+use state::State;
 
 // The value of a lower-case hexadecimal digit; 0 for any other byte.
 fn digit(c: u8) -> usize
@@ -134,19 +137,50 @@ fn same_next(got: Next, status: usize, recorded: Regs) -> bool {
     }
 }
 
-// uleb: SBASE SLEN bytes KBASE KLEN bytes POS END STATUS V NEXT, from place 2 on.
-fn check_uleb(words: &[usize; 1024]) -> bool {
-    let slen = held(word(words, 3));
+// What a line lends: SBASE SLEN bytes KBASE KLEN bytes, from place 2 on; `rest` is the place after it.
+struct Ranges {
+    section: [u8; 512],
+    section_base: usize,
+    section_len: usize,
+    stack: [u8; 512],
+    stack_base: usize,
+    stack_len: usize,
+    rest: usize,
+}
+
+fn lent_by(words: &[usize; 1024]) -> Ranges
+    ensures { λ r. ⌜ (r .«section_len» ≤ 512) × (512 ≡ length (r .section)) ⌝ }
+    ensures { λ r. ⌜ (r .«stack_len» ≤ 512) × (512 ≡ length (r .stack)) ⌝ }
+{
+    let section_len = held(word(words, 3));
+    let k = after(4, section_len);
+    let stack_len = held(word(words, after(k, 1)));
     let section = bytes(words, 4);
-    let k = after(4, slen);
-    let klen = held(word(words, after(k, 1)));
     let stack = bytes(words, after(k, 2));
-    let rest = after(after(k, 2), klen);
+    Ranges {
+        section: section,
+        section_base: word(words, 2),
+        section_len: section_len,
+        stack: stack,
+        stack_base: word(words, k),
+        stack_len: stack_len,
+        rest: after(after(k, 2), stack_len),
+    }
+}
+
+// uleb: what is lent, POS END STATUS V NEXT.
+fn check_uleb(words: &[usize; 1024]) -> bool {
+    let m = lent_by(words);
+    let section = m.section;
+    let n = m.section_len;
+    let stack = m.stack;
+    let k = m.stack_len;
+    let rest = m.rest;
     let got = leb::read_uleb(
-        &section[..slen],
-        word(words, 2),
-        &stack[..klen],
-        word(words, k),
+        &section[..n],
+        m.section_base,
+        &stack[..k],
+        m.stack_base,
         word(words, rest),
         word(words, after(rest, 1)),
     );
@@ -206,6 +240,207 @@ fn check_strip(words: &[usize; 1024], arch: u8) -> bool {
     same_value(arch::strip_pac(arch, word(words, 2)), 0, word(words, 3))
 }
 
+// A record is as recorded: START END FRAME HANDLERS PROGRAM LIMIT VERSION.
+fn same_record(words: &[usize; 1024], at: usize, r: Record) -> bool {
+    r.start == word(words, at)
+        && r.end == word(words, after(at, 1))
+        && r.frame as usize == word(words, after(at, 2))
+        && r.handlers == word(words, after(at, 3))
+        && r.program == word(words, after(at, 4))
+        && r.limit == word(words, after(at, 5))
+        && r.version as usize == word(words, after(at, 6))
+}
+
+// lookup: what is lent, PC STATUS and a record; ff is none.
+fn check_lookup(words: &[usize; 1024], arch: u8) -> bool {
+    let m = lent_by(words);
+    let section = m.section;
+    let n = m.section_len;
+    let stack = m.stack;
+    let k = m.stack_len;
+    let rest = m.rest;
+    let got = lookup::lookup_arch(
+        &section[..n],
+        m.section_base,
+        &stack[..k],
+        m.stack_base,
+        word(words, rest),
+        arch,
+    );
+    let status = word(words, after(rest, 1));
+    match got {
+        Lookup::Found(r, _) => status == 0 && same_record(words, after(rest, 2), r),
+        Lookup::None => status == 255,
+        Lookup::BadEkoHeader => status == 17,
+        Lookup::BadEkoRecord => status == 18,
+        Lookup::EkoUnsorted => status == 19,
+        Lookup::BadOpening => status == 28,
+    }
+}
+
+// How many numbers a state has on a line: FP UNITS COUNT N and N pairs.
+fn state_size(words: &[usize; 1024], at: usize) -> usize
+    ensures { λ r. ⌜ r ≤ 68 ⌝ }
+{
+    let n = word(words, after(at, 3));
+    if n < 32 {
+        return 4 + 2 * n;
+    }
+    68
+}
+
+// The state on a line from a place on; pairs that are not written are 0 0.
+fn state(words: &[usize; 1024], at: usize) -> State {
+    let mut st = State {
+        cfa_fp: word(words, at) == 1,
+        cfa_units: (word(words, after(at, 1)) % 0x1_0000_0000) as u32,
+        count: word(words, after(at, 2)),
+        regs: [0; 32],
+        slots: [0; 32],
+    };
+    let n = word(words, after(at, 3));
+    let mut i: usize = 0;
+    while i < 32 {
+        if i < n {
+            st.regs[i] = (word(words, after(at, 4 + 2 * i)) % 65536) as u16;
+            st.slots[i] = (word(words, after(at, 5 + 2 * i)) % 65536) as u16;
+        }
+        i += 1;
+    }
+    st
+}
+
+// Two states hold the same, past the count too.
+fn same_state(a: State, b: State) -> bool {
+    if a.cfa_fp != b.cfa_fp {
+        return false;
+    }
+    if a.cfa_units != b.cfa_units {
+        return false;
+    }
+    if a.count != b.count {
+        return false;
+    }
+    let mut i: usize = 0;
+    while i < 32 {
+        if a.regs[i] != b.regs[i] {
+            return false;
+        }
+        if a.slots[i] != b.slots[i] {
+            return false;
+        }
+        i += 1;
+    }
+    true
+}
+
+// run: what is lent, PROGRAM LIMIT OFF STATUS STATE AFTER.
+fn check_run(words: &[usize; 1024], arch: u8) -> bool {
+    let m = lent_by(words);
+    let section = m.section;
+    let n = m.section_len;
+    let stack = m.stack;
+    let k = m.stack_len;
+    let rest = m.rest;
+    let got = program::run(
+        &section[..n],
+        m.section_base,
+        &stack[..k],
+        m.stack_base,
+        arch,
+        word(words, rest),
+        word(words, after(rest, 1)),
+        word(words, after(rest, 2)),
+    );
+    let at = after(rest, 4);
+    let st = got.state;
+    if !same_state(st, state(words, at)) {
+        return false;
+    }
+    if got.after != word(words, after(at, state_size(words, at))) {
+        return false;
+    }
+    let status = got.status;
+    match status {
+        program::Status::Done => word(words, after(rest, 3)) == 0,
+        program::Status::Refused(n) => word(words, after(rest, 3)) == n as usize,
+    }
+}
+
+// A changed state is as recorded: STATUS STATE'.
+fn same_change(words: &[usize; 1024], at: usize, got: state::Next) -> bool {
+    let st = got.state;
+    if !same_state(st, state(words, after(at, 1))) {
+        return false;
+    }
+    let recorded = word(words, at);
+    let status = got.status;
+    match status {
+        state::Status::Done => recorded == 0,
+        state::Status::OutOfRange => recorded == 18,
+        state::Status::Full => recorded == 18,
+        state::Status::BadOpening => recorded == 28,
+    }
+}
+
+// save: STATE REG SLOT STATUS STATE'.
+fn check_save(words: &[usize; 1024]) -> bool {
+    let at = after(2, state_size(words, 2));
+    let got = state(words, 2).save(word(words, at), word(words, after(at, 1)));
+    same_change(words, after(at, 2), got)
+}
+
+// restore: STATE REG STATUS STATE'.
+fn check_restore(words: &[usize; 1024], arch: u8) -> bool {
+    let at = after(2, state_size(words, 2));
+    let got = state(words, 2).restore(arch, word(words, at));
+    same_change(words, after(at, 1), got)
+}
+
+// apply: what is lent, STATE FILE STATUS FILE'.
+fn check_apply(words: &[usize; 1024], arch: u8) -> bool {
+    let m = lent_by(words);
+    let section = m.section;
+    let n = m.section_len;
+    let stack = m.stack;
+    let k = m.stack_len;
+    let rest = m.rest;
+    let at = after(rest, state_size(words, rest));
+    let got = frame::apply(
+        &section[..n],
+        m.section_base,
+        &stack[..k],
+        m.stack_base,
+        arch,
+        state(words, rest),
+        file(words, at, arch),
+    );
+    let end = after(at, file_size(arch));
+    same_next(got, word(words, end), file(words, after(end, 1), arch))
+}
+
+// step: what is lent, FRAME FIRST FILE STATUS FILE'.
+fn check_step(words: &[usize; 1024], arch: u8) -> bool {
+    let m = lent_by(words);
+    let section = m.section;
+    let n = m.section_len;
+    let stack = m.stack;
+    let k = m.stack_len;
+    let rest = m.rest;
+    let got = frame::step(
+        &section[..n],
+        m.section_base,
+        &stack[..k],
+        m.stack_base,
+        arch,
+        (word(words, rest) % 0x1_0000_0000) as u32,
+        word(words, after(rest, 1)) == 1,
+        file(words, after(rest, 2), arch),
+    );
+    let end = after(after(rest, 2), file_size(arch));
+    same_next(got, word(words, end), file(words, after(end, 1), arch))
+}
+
 // Our answer to a case is the recorded one.
 fn check_case(words: &[usize; 1024]) -> bool {
     let op = word(words, 0);
@@ -218,6 +453,12 @@ fn check_case(words: &[usize; 1024]) -> bool {
         5 => check_sp(words, arch),
         6 => check_set_sp(words, arch),
         7 => check_strip(words, arch),
+        8 => check_lookup(words, arch),
+        9 => check_run(words, arch),
+        10 => check_save(words),
+        11 => check_restore(words, arch),
+        12 => check_apply(words, arch),
+        13 => check_step(words, arch),
         _ => false,
     }
 }
@@ -351,4 +592,7 @@ fn replay(name: &[u8]) {
 
 fn main() {
     replay(b"foundation");
+    replay(b"lookup");
+    replay(b"program");
+    replay(b"frame");
 }

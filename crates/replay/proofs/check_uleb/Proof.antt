@@ -5,38 +5,8 @@ use borrow.Author.Needs.{needs}
 use Rattle.replay.proofs.check_uleb.Statement.{statement}
 use Rattle.replay.proofs.check_uleb.Tie as tie
 
-word-requires : tie.Need-word-requires
-word-requires c κs = search needs
-
-held-requires : tie.Need-held-requires
-held-requires c κs = search needs
-
-bytes-requires : tie.Need-bytes-requires
-bytes-requires c κs = search needs
-
-after-requires : tie.Need-after-requires
-after-requires c κs = search needs
-
-after-requires-2 : tie.Need-after-requires-2
-after-requires-2 c κs = search needs
-
-word-requires-2 : tie.Need-word-requires-2
-word-requires-2 c κs = search needs
-
-held-requires-2 : tie.Need-held-requires-2
-held-requires-2 c κs = search needs
-
-after-requires-3 : tie.Need-after-requires-3
-after-requires-3 c κs = search needs
-
-bytes-requires-2 : tie.Need-bytes-requires-2
-bytes-requires-2 c κs = search needs
-
-after-requires-4 : tie.Need-after-requires-4
-after-requires-4 c κs = search needs
-
-after-requires-5 : tie.Need-after-requires-5
-after-requires-5 c κs = search needs
+lent-by-requires : tie.Need-lent-by-requires
+lent-by-requires c κs = search needs
 
 array-share-prefix-section : tie.Need-array-share-prefix-section
 array-share-prefix-section c = search needs
@@ -44,50 +14,44 @@ array-share-prefix-section c = search needs
 slice-aggregate-read-uleb : tie.Need-slice-aggregate-read-uleb
 slice-aggregate-read-uleb c = simp length-take (omega arith)
 
-word-requires-3 : tie.Need-word-requires-3
-word-requires-3 c κs = search needs
-
 array-share-prefix-stack : tie.Need-array-share-prefix-stack
 array-share-prefix-stack c = search needs
 
 slice-aggregate-read-uleb-2 : tie.Need-slice-aggregate-read-uleb-2
 slice-aggregate-read-uleb-2 c = simp length-take (omega arith)
 
-word-requires-4 : tie.Need-word-requires-4
-word-requires-4 c κs = search needs
+word-requires : tie.Need-word-requires
+word-requires c κs = search needs
 
-word-requires-5 : tie.Need-word-requires-5
-word-requires-5 c κs = search needs
+after-requires : tie.Need-after-requires
+after-requires c κs = search needs
 
-after-requires-6 : tie.Need-after-requires-6
-after-requires-6 c κs = search needs
-
-word-requires-6 : tie.Need-word-requires-6
-word-requires-6 c κs = search needs
+word-requires-2 : tie.Need-word-requires-2
+word-requires-2 c κs = search needs
 
 read-uleb-requires : tie.Need-read-uleb-requires
 read-uleb-requires c κs = search needs
 
-after-requires-7 : tie.Need-after-requires-7
-after-requires-7 c κs = search needs
+after-requires-2 : tie.Need-after-requires-2
+after-requires-2 c κs = search needs
 
-word-requires-7 : tie.Need-word-requires-7
-word-requires-7 c κs = search needs
+word-requires-3 : tie.Need-word-requires-3
+word-requires-3 c κs = search needs
 
 enum-known-got : tie.Need-enum-known-got
 enum-known-got c = search needs
 
-after-requires-8 : tie.Need-after-requires-8
-after-requires-8 c κs = search needs
+after-requires-3 : tie.Need-after-requires-3
+after-requires-3 c κs = search needs
 
-word-requires-8 : tie.Need-word-requires-8
-word-requires-8 c κs = search needs
+word-requires-4 : tie.Need-word-requires-4
+word-requires-4 c κs = search needs
 
-after-requires-9 : tie.Need-after-requires-9
-after-requires-9 c κs = search needs
+after-requires-4 : tie.Need-after-requires-4
+after-requires-4 c κs = search needs
 
-word-requires-9 : tie.Need-word-requires-9
-word-requires-9 c κs = search needs
+word-requires-5 : tie.Need-word-requires-5
+word-requires-5 c κs = search needs
 
 enum-known-got-2 : tie.Need-enum-known-got-2
 enum-known-got-2 c = search needs
@@ -108,34 +72,22 @@ pub check-uleb-spec : {M : Type 1} → statement M
 check-uleb-spec =
     tie.close
     (tie.spec
-    word-requires
-    held-requires
-    bytes-requires
-    after-requires
-    after-requires-2
-    word-requires-2
-    held-requires-2
-    after-requires-3
-    bytes-requires-2
-    after-requires-4
-    after-requires-5
+    lent-by-requires
     array-share-prefix-section
     slice-aggregate-read-uleb
-    word-requires-3
     array-share-prefix-stack
     slice-aggregate-read-uleb-2
-    word-requires-4
-    word-requires-5
-    after-requires-6
-    word-requires-6
+    word-requires
+    after-requires
+    word-requires-2
     read-uleb-requires
-    after-requires-7
-    word-requires-7
+    after-requires-2
+    word-requires-3
     enum-known-got
-    after-requires-8
-    word-requires-8
-    after-requires-9
-    word-requires-9
+    after-requires-3
+    word-requires-4
+    after-requires-4
+    word-requires-5
     enum-known-got-2
     cast-result
     returns

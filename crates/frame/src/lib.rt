@@ -1,0 +1,745 @@
+// The caller's registers: from an unwind state (ps-unwind's `apply`) and from a version 1 frame word (its `step`).
+// `apply` and `step` refuse with 28 first. `apply_state` and `step_frame` are for the crates above, which have tested what is
+// lent, the architecture and the count: there any architecture but 1 stands for 2, and a state has no pair past its arrays.
+ghost use mathlib.Core.Path.{_≡_};
+ghost use mathlib.Core.Bool.{not, _&&_};
+ghost use Prim.Native.Nat.{_≤_, _<_};
+ghost use lib.Dec.{eqb, ltb};
+ghost use lib.ListN.{length};
+ghost use Rattle.failure.specs.Outcome as Outcome;
+ghost use Rattle.mem.specs.Memory.{lent};
+ghost use Rattle.arch.specs.Arch as Arch;
+ghost use Rattle.arch.specs.File as File;
+ghost use Rattle.arch.specs.Answers.{valued, next};
+ghost use Rattle.frame.specs.Layout.{layout, base};
+ghost use Rattle.frame.specs.Apply as Apply;
+ghost use Rattle.frame.specs.Frame as Frame;
+ghost use Rattle.frame.specs.Step as Step;
+ghost use Rattle.frame.specs.Public as Public;
+ghost use Rattle.frame.specs.Answers.{Restores};
+use arch::Column;
+use arch::Next;
+use arch::Regs;
+use arch::Status;
+use arch::Value;
+use failure::BAD_CFA_RULE;
+use failure::BAD_EKO_RECORD;
+use failure::BAD_OPENING;
+use failure::EKO_ASYNC_FRAME;
+use failure::MISALIGNED;
+use failure::OUTSIDE_MEMORY;
+use failure::UNKNOWN_REGISTER;
+use mem::load;
+use mem::load::Word;
+use mem::opening;
+use mem::wrapping;
+use state::MAX_SAVED;
+use state::State;
+
+pub const KIND_LEAF: u32 = 0;
+
+pub const KIND_FP: u32 = 1;
+
+pub const KIND_SP: u32 = 2;
+
+// A saved register: its column and its value, or a refusal.
+enum Saved {
+    At(usize, usize),
+    Refused(u32),
+}
+
+// A refusal hands back the file that came in.
+fn refused(n: u32, regs: Regs) -> Next
+    ensures { λ r. ⌜ r ≡ next regs (Outcome.Refused n) ⌝ }
+{
+    Next {
+        status: Status::Refused(n),
+        regs,
+    }
+}
+
+// The next file.
+fn done(regs: Regs) -> Next
+    ensures { λ r. ⌜ r ≡ next regs (Outcome.Answer (regs .r)) ⌝ }
+{
+    Next {
+        status: Status::Done,
+        regs,
+    }
+}
+
+// fp is 0 or no multiple of 8.
+fn bad_fp(fp: usize) -> bool
+    ensures { λ r. ⌜ r ≡ Apply.badFp fp ⌝ }
+{
+    if fp == 0 {
+        return true;
+    }
+    fp % 8 != 0
+}
+
+// What stands in a slot.
+fn load_slot<'a>(
+    section: &'a [u8],
+    section_base: usize,
+    stack: &'a [u8],
+    stack_base: usize,
+    cfa: usize,
+    slot: u16,
+) -> Value
+    ensures { λ r. ⌜
+        valued r ≡
+        Apply.loadSlot (lent (now (section .entry)) «section_base» (now (stack .entry)) «stack_base» .regions) cfa slot
+        ⌝ }
+{
+    let at = wrapping::sub(cfa, 8 * slot as usize);
+    match load::load_u64(section, section_base, stack, stack_base, at) {
+        Word::Value(v) => Value::Is(v),
+        Word::Outside => Value::Refused(OUTSIDE_MEMORY),
+    }
+}
+
+// A pair: its slot is read, then its register's column found.
+fn saved_at<'a>(
+    section: &'a [u8],
+    section_base: usize,
+    stack: &'a [u8],
+    stack_base: usize,
+    arch: u8,
+    cfa: usize,
+    reg: u16,
+    slot: u16,
+) -> Saved
+    ensures { λ r. ⌜
+        Restores (Arch.numbers arch)
+        (lent (now (section .entry)) «section_base» (now (stack .entry)) «stack_base» .regions)
+        cfa (record { reg = reg; slot = slot }) r
+        ⌝ }
+{
+    match load_slot(section, section_base, stack, stack_base, cfa, slot) {
+        Value::Is(v) => match arch::column_of(arch, reg) {
+            Column::At(k) => Saved::At(k, v),
+            Column::Unknown => Saved::Refused(UNKNOWN_REGISTER),
+        },
+        Value::Refused(n) => Saved::Refused(n),
+    }
+}
+
+// Each of a state's pairs in order: read, then set.
+fn restore_pairs<'a>(
+    section: &'a [u8],
+    section_base: usize,
+    stack: &'a [u8],
+    stack_base: usize,
+    arch: u8,
+    cfa: usize,
+    state: State,
+    regs: Regs,
+) -> Next
+    ensures { λ r. ⌜
+        r ≡ next regs
+        (Apply.restorePairs (Arch.numbers arch)
+        (lent (now (section .entry)) «section_base» (now (stack .entry)) «stack_base» .regions)
+        cfa (layout state .pairs) (regs .r))
+        ⌝ }
+{
+    let mut file = regs;
+    let mut i = 0;
+    while i < MAX_SAVED {
+        if state.count <= i {
+            return done(file);
+        }
+        let reg = state.regs[i];
+        let slot = state.slots[i];
+        i += 1;
+        match saved_at(
+            section,
+            section_base,
+            stack,
+            stack_base,
+            arch,
+            cfa,
+            reg,
+            slot,
+        ) {
+            Saved::At(k, v) => file.r[k] = v,
+            Saved::Refused(n) => return refused(n, regs),
+        }
+    }
+    done(file)
+}
+
+// The base register's value.
+fn base_of(arch: u8, cfa_fp: bool, regs: Regs) -> usize
+    ensures { λ r. ⌜ r ≡ base (Arch.numbers arch) «cfa_fp» (regs .r) ⌝ }
+{
+    if cfa_fp {
+        let k = arch::fp_column(arch);
+        return regs.r[k];
+    }
+    let k = arch::sp_column(arch);
+    regs.r[k]
+}
+
+// sp is the CFA, pc the stripped return address.
+fn returned(arch: u8, cfa: usize, ra: usize, mut regs: Regs) -> Regs
+    ensures { λ r. ⌜ r .r ≡ Apply.returned (Arch.numbers arch) cfa ra (regs .r) ⌝ }
+{
+    let k = arch::sp_column(arch);
+    regs.r[k] = cfa;
+    regs.set_pc(arch::stripped(arch, ra))
+}
+
+// fp as base, and bad.
+fn bad_base(cfa_fp: bool, base: usize) -> bool
+    ensures { λ r. ⌜ r ≡ («cfa_fp» && Apply.badFp base) ⌝ }
+{
+    if cfa_fp {
+        return bad_fp(base);
+    }
+    false
+}
+
+// The return register's value.
+fn ra_register(arch: u8, regs: Regs) -> Value
+    ensures { λ r. ⌜ valued r ≡ File.get (Arch.numbers arch) (regs .r) (Arch.numbers arch .ra) ⌝ }
+{
+    let a = arch::numbers(arch);
+    match arch::column_of(arch, a.ra) {
+        Column::At(k) => Value::Is(regs.r[k]),
+        Column::Unknown => Value::Refused(UNKNOWN_REGISTER),
+    }
+}
+
+// Past the tests: each pair, then the return address from its register.
+fn apply_at<'a>(
+    section: &'a [u8],
+    section_base: usize,
+    stack: &'a [u8],
+    stack_base: usize,
+    arch: u8,
+    cfa: usize,
+    state: State,
+    regs: Regs,
+) -> Next
+    ensures { λ r. ⌜
+        r ≡ next regs
+        (Apply.applyAt (Arch.numbers arch)
+        (lent (now (section .entry)) «section_base» (now (stack .entry)) «stack_base» .regions)
+        cfa (layout state .pairs) (regs .r))
+        ⌝ }
+{
+    let restored = restore_pairs(
+        section,
+        section_base,
+        stack,
+        stack_base,
+        arch,
+        cfa,
+        state,
+        regs,
+    );
+    let status = restored.status;
+    let file = restored.regs;
+    match status {
+        Status::Done => match ra_register(arch, file) {
+            Value::Is(ra) => done(returned(arch, cfa, ra, file)),
+            Value::Refused(n) => refused(n, regs),
+        },
+        Status::Refused(n) => refused(n, regs),
+    }
+}
+
+// The caller's registers from a state, for any architecture number and count.
+pub fn apply_state<'a>(
+    section: &'a [u8],
+    section_base: usize,
+    stack: &'a [u8],
+    stack_base: usize,
+    arch: u8,
+    state: State,
+    regs: Regs,
+) -> Next
+    ensures { λ r. ⌜
+        r ≡ next regs
+        (Apply.apply (Arch.numbers arch)
+        (lent (now (section .entry)) «section_base» (now (stack .entry)) «stack_base» .regions)
+        (layout state) (regs .r))
+        ⌝ }
+{
+    let base = base_of(arch, state.cfa_fp, regs);
+    if bad_base(state.cfa_fp, base) {
+        return refused(MISALIGNED, regs);
+    }
+    let cfa = wrapping::add(base, 8 * state.cfa_units as usize);
+    if cfa == 0 {
+        return refused(BAD_CFA_RULE, regs);
+    }
+    apply_at(
+        section,
+        section_base,
+        stack,
+        stack_base,
+        arch,
+        cfa,
+        state,
+        regs,
+    )
+}
+
+// apply: the caller's registers from a state.
+pub fn apply<'a>(
+    section: &'a [u8],
+    section_base: usize,
+    stack: &'a [u8],
+    stack_base: usize,
+    arch: u8,
+    state: State,
+    regs: Regs,
+) -> Next
+    ensures { λ r. ⌜
+        r ≡ next regs
+        (Public.apply (lent (now (section .entry)) «section_base» (now (stack .entry)) «stack_base») arch state (regs .r))
+        ⌝ }
+{
+    if !opening::opens(section, section_base, stack, stack_base) {
+        return refused(BAD_OPENING, regs);
+    }
+    if !arch::is_known(arch) {
+        return refused(BAD_OPENING, regs);
+    }
+    if MAX_SAVED < state.count {
+        return refused(BAD_OPENING, regs);
+    }
+    apply_state(section, section_base, stack, stack_base, arch, state, regs)
+}
+
+// Bits 0 and 1 of a frame word.
+pub fn kind(frame: u32) -> u32
+    ensures { λ r. ⌜ r ≡ Frame.kind frame ⌝ }
+{
+    frame % 4
+}
+
+// Bits 3 to 20.
+pub fn mask(frame: u32) -> u32
+    ensures { λ r. ⌜ r ≡ Frame.mask frame ⌝ }
+{
+    frame / 8 % 0x4_0000
+}
+
+// Bits 21 to 31.
+pub fn param(frame: u32) -> usize
+    ensures { λ r. ⌜ r ≡ Frame.param frame ⌝ }
+{
+    (frame / 0x20_0000) as usize
+}
+
+// Order bit 1 reverses the slots.
+fn reversed(frame: u32) -> bool
+    ensures { λ r. ⌜ r ≡ Frame.reversed frame ⌝ }
+{
+    frame / 4 % 2 == 1
+}
+
+// Where the slots of the saved registers begin.
+fn first_slot(frame: u32) -> usize
+    ensures { λ r. ⌜ (r ≡ Frame.firstSlot frame) × (r < 2048) ⌝ }
+{
+    if kind(frame) == KIND_FP {
+        return param(frame);
+    }
+    2
+}
+
+// The slot of saved register number k of n.
+fn slot_of(frame: u32, n: usize, k: usize) -> u16
+    requires { ⌜ (k < n) × (n ≤ 18) ⌝ }
+    ensures { λ r. ⌜ r ≡ Frame.slotOf frame n k ⌝ }
+{
+    let slot = first_slot(frame);
+    if reversed(frame) {
+        return (slot + (n - 1 - k)) as u16;
+    }
+    (slot + k) as u16
+}
+
+// The mask has a bit past the SAVED table.
+fn past_table(arch: u8, frame: u32) -> bool
+    ensures { λ r. ⌜ r ≡ Step.pastTable (Arch.numbers arch) frame ⌝ }
+{
+    let n = arch::saved_count(arch);
+    mask(frame) >> n != 0
+}
+
+// How many registers the mask names.
+fn named_count(arch: u8, frame: u32) -> usize
+    ensures { λ r. ⌜ r ≡ length (Frame.named (Frame.mask frame) (Arch.numbers arch .saved)) ⌝ }
+{
+    let table = arch::saved_count(arch);
+    let mut rest = mask(frame);
+    let mut bit = 0;
+    let mut n = 0;
+    while bit < table {
+        n += (rest % 2) as usize;
+        rest = rest / 2;
+        bit += 1;
+    }
+    n
+}
+
+// The registers that the mask names, in mask-bit order: each read, then set.
+fn restore_named<'a>(
+    section: &'a [u8],
+    section_base: usize,
+    stack: &'a [u8],
+    stack_base: usize,
+    arch: u8,
+    cfa: usize,
+    frame: u32,
+    regs: Regs,
+) -> Next
+    ensures { λ r. ⌜
+        r ≡ next regs
+        (Apply.restorePairs (Arch.numbers arch)
+        (lent (now (section .entry)) «section_base» (now (stack .entry)) «stack_base» .regions)
+        cfa (Frame.savedPairs (Arch.numbers arch) frame) (regs .r))
+        ⌝ }
+{
+    let table = arch::saved_count(arch);
+    let n = named_count(arch, frame);
+    let mut file = regs;
+    let mut rest = mask(frame);
+    let mut bit = 0;
+    let mut k = 0;
+    while bit < table {
+        let reg = arch::saved(arch, bit);
+        let named = rest % 2;
+        rest = rest / 2;
+        bit += 1;
+        if named == 1 {
+            let slot = slot_of(frame, n, k);
+            k += 1;
+            match saved_at(
+                section,
+                section_base,
+                stack,
+                stack_base,
+                arch,
+                cfa,
+                reg,
+                slot,
+            ) {
+                Saved::At(column, v) => file.r[column] = v,
+                Saved::Refused(x) => return refused(x, regs),
+            }
+        }
+    }
+    done(file)
+}
+
+// Leaf: sp + 16 * param, and what entry has above sp.
+fn leaf_cfa(arch: u8, frame: u32, first: bool, sp: usize) -> Value
+    ensures { λ r. ⌜ valued r ≡ Step.leafCfa (Arch.numbers arch) frame first sp ⌝ }
+{
+    if mask(frame) != 0 {
+        return Value::Refused(BAD_EKO_RECORD);
+    }
+    if !first {
+        return Value::Refused(BAD_EKO_RECORD);
+    }
+    let a = arch::numbers(arch);
+    Value::Is(wrapping::add(sp, 8 * a.entry_cfa as usize + 16 * param(frame)))
+}
+
+// Kind 1 with param below 3 and a mask.
+fn saves_too_low(frame: u32) -> bool
+    ensures { λ r. ⌜ r ≡ (ltb (Frame.param frame) 3 && not (eqb (Frame.mask frame) 0)) ⌝ }
+{
+    if param(frame) < 3 {
+        return mask(frame) != 0;
+    }
+    false
+}
+
+// Kind 1: fp + 16.
+fn fp_cfa(frame: u32, first: bool, fp: usize) -> Value
+    ensures { λ r. ⌜ valued r ≡ Step.fpCfa frame first fp ⌝ }
+{
+    if first {
+        return Value::Refused(EKO_ASYNC_FRAME);
+    }
+    if saves_too_low(frame) {
+        return Value::Refused(BAD_EKO_RECORD);
+    }
+    if bad_fp(fp) {
+        return Value::Refused(MISALIGNED);
+    }
+    Value::Is(wrapping::add(fp, 16))
+}
+
+// Kind 2: sp + 16 * param.
+fn sp_cfa(frame: u32, first: bool, sp: usize) -> Value
+    ensures { λ r. ⌜ valued r ≡ Step.spCfa frame first sp ⌝ }
+{
+    if first {
+        return Value::Refused(EKO_ASYNC_FRAME);
+    }
+    Value::Is(wrapping::add(sp, 16 * param(frame)))
+}
+
+// The CFA, or what the word or fp is turned back with.
+fn frame_cfa(arch: u8, frame: u32, first: bool, regs: Regs) -> Value
+    ensures { λ r. ⌜ valued r ≡ Step.frameCfa (Arch.numbers arch) frame first (regs .r) ⌝ }
+{
+    if past_table(arch, frame) {
+        return Value::Refused(BAD_EKO_RECORD);
+    }
+    match kind(frame) {
+        KIND_LEAF => leaf_cfa(arch, frame, first, base_of(arch, false, regs)),
+        KIND_FP => fp_cfa(frame, first, base_of(arch, true, regs)),
+        KIND_SP => sp_cfa(frame, first, base_of(arch, false, regs)),
+        _ => Value::Refused(BAD_EKO_RECORD),
+    }
+}
+
+// The slot of the return address, 0 where it is still in its register.
+fn ra_slot(arch: u8, frame: u32) -> u16
+    ensures { λ r. ⌜ r ≡ Frame.raSlot (Arch.numbers arch) frame ⌝ }
+{
+    if kind(frame) == KIND_LEAF {
+        let a = arch::numbers(arch);
+        return a.entry_ra_slot;
+    }
+    1
+}
+
+// The return address, from its slot or still from its register.
+fn return_address<'a>(
+    section: &'a [u8],
+    section_base: usize,
+    stack: &'a [u8],
+    stack_base: usize,
+    arch: u8,
+    cfa: usize,
+    slot: u16,
+    regs: Regs,
+) -> Value
+    ensures { λ r. ⌜
+        valued r ≡
+        Step.returnAddress (Arch.numbers arch)
+        (lent (now (section .entry)) «section_base» (now (stack .entry)) «stack_base» .regions)
+        cfa slot (regs .r)
+        ⌝ }
+{
+    if slot == 0 {
+        return ra_register(arch, regs);
+    }
+    load_slot(section, section_base, stack, stack_base, cfa, slot)
+}
+
+// The return register, sp and pc are set in file; a refusal hands regs back.
+fn set_return(arch: u8, cfa: usize, ra: usize, regs: Regs, mut file: Regs) -> Next
+    ensures { λ r. ⌜ r ≡ next regs (Step.setReturn (Arch.numbers arch) cfa ra (file .r)) ⌝ }
+{
+    let a = arch::numbers(arch);
+    match arch::column_of(arch, a.ra) {
+        Column::At(k) => {
+            file.r[k] = ra;
+            done(returned(arch, cfa, ra, file))
+        }
+        Column::Unknown => refused(UNKNOWN_REGISTER, regs),
+    }
+}
+
+// fp where the frame saves it, then what the return address sets; a refusal hands regs back.
+fn set_frame<'a>(
+    section: &'a [u8],
+    section_base: usize,
+    stack: &'a [u8],
+    stack_base: usize,
+    arch: u8,
+    cfa: usize,
+    frame: u32,
+    ra: usize,
+    regs: Regs,
+    mut file: Regs,
+) -> Next
+    ensures { λ r. ⌜
+        r ≡ next regs
+        (Step.setFrame (Arch.numbers arch)
+        (lent (now (section .entry)) «section_base» (now (stack .entry)) «stack_base» .regions)
+        frame cfa ra (file .r))
+        ⌝ }
+{
+    if kind(frame) == KIND_FP {
+        let a = arch::numbers(arch);
+        match saved_at(section, section_base, stack, stack_base, arch, cfa, a.fp, 2) {
+            Saved::At(k, v) => {
+                file.r[k] = v;
+                return set_return(arch, cfa, ra, regs, file);
+            }
+            Saved::Refused(n) => return refused(n, regs),
+        }
+    }
+    set_return(arch, cfa, ra, regs, file)
+}
+
+// The return address is read, from regs or memory, then file becomes the caller's; a refusal hands regs back.
+fn set_caller<'a>(
+    section: &'a [u8],
+    section_base: usize,
+    stack: &'a [u8],
+    stack_base: usize,
+    arch: u8,
+    cfa: usize,
+    frame: u32,
+    regs: Regs,
+    file: Regs,
+) -> Next
+    ensures { λ r. ⌜
+        r ≡ next regs
+        (Step.setCaller (Arch.numbers arch)
+        (lent (now (section .entry)) «section_base» (now (stack .entry)) «stack_base» .regions)
+        frame cfa (regs .r) (file .r))
+        ⌝ }
+{
+    let slot = ra_slot(arch, frame);
+    match return_address(
+        section,
+        section_base,
+        stack,
+        stack_base,
+        arch,
+        cfa,
+        slot,
+        regs,
+    ) {
+        Value::Is(ra) => set_frame(
+            section,
+            section_base,
+            stack,
+            stack_base,
+            arch,
+            cfa,
+            frame,
+            ra,
+            regs,
+            file,
+        ),
+        Value::Refused(n) => refused(n, regs),
+    }
+}
+
+// Past the tests: the saved registers, then the rest of the caller's.
+fn step_at<'a>(
+    section: &'a [u8],
+    section_base: usize,
+    stack: &'a [u8],
+    stack_base: usize,
+    arch: u8,
+    cfa: usize,
+    frame: u32,
+    regs: Regs,
+) -> Next
+    ensures { λ r. ⌜
+        r ≡ next regs
+        (Step.stepAt (Arch.numbers arch)
+        (lent (now (section .entry)) «section_base» (now (stack .entry)) «stack_base» .regions)
+        frame cfa (regs .r))
+        ⌝ }
+{
+    let restored = restore_named(
+        section,
+        section_base,
+        stack,
+        stack_base,
+        arch,
+        cfa,
+        frame,
+        regs,
+    );
+    let status = restored.status;
+    let file = restored.regs;
+    match status {
+        Status::Done => set_caller(
+            section,
+            section_base,
+            stack,
+            stack_base,
+            arch,
+            cfa,
+            frame,
+            regs,
+            file,
+        ),
+        Status::Refused(n) => refused(n, regs),
+    }
+}
+
+// The caller's registers from a version 1 frame word, for any architecture number. First means interrupted.
+pub fn step_frame<'a>(
+    section: &'a [u8],
+    section_base: usize,
+    stack: &'a [u8],
+    stack_base: usize,
+    arch: u8,
+    frame: u32,
+    first: bool,
+    regs: Regs,
+) -> Next
+    ensures { λ r. ⌜
+        r ≡ next regs
+        (Step.step (Arch.numbers arch)
+        (lent (now (section .entry)) «section_base» (now (stack .entry)) «stack_base» .regions)
+        frame first (regs .r))
+        ⌝ }
+{
+    match frame_cfa(arch, frame, first, regs) {
+        Value::Is(cfa) => step_at(
+            section,
+            section_base,
+            stack,
+            stack_base,
+            arch,
+            cfa,
+            frame,
+            regs,
+        ),
+        Value::Refused(n) => refused(n, regs),
+    }
+}
+
+// step: the caller's registers from a version 1 frame word. First means interrupted.
+pub fn step<'a>(
+    section: &'a [u8],
+    section_base: usize,
+    stack: &'a [u8],
+    stack_base: usize,
+    arch: u8,
+    frame: u32,
+    first: bool,
+    regs: Regs,
+) -> Next
+    ensures { λ r. ⌜
+        r ≡ next regs
+        (Public.step (lent (now (section .entry)) «section_base» (now (stack .entry)) «stack_base») arch frame first (regs .r))
+        ⌝ }
+{
+    if !opening::opens(section, section_base, stack, stack_base) {
+        return refused(BAD_OPENING, regs);
+    }
+    if !arch::is_known(arch) {
+        return refused(BAD_OPENING, regs);
+    }
+    step_frame(
+        section,
+        section_base,
+        stack,
+        stack_base,
+        arch,
+        frame,
+        first,
+        regs,
+    )
+}

@@ -1,0 +1,49 @@
+-- `lookup::u16_at` meets its contract, byte by byte. Assumes nothing.
+use native.Mathlib.Omega.{arith}
+use denote.Ref.{now}
+use Prim.Native.Nat.{_+_}
+use Rattle.lookup.proofs.Fields.{word-none, word-more}
+use borrow.Author.Needs.{needs}
+use Rattle.lookup.proofs.u16_at.Statement.{statement}
+use Rattle.lookup.proofs.u16_at.Tie as tie
+
+shared-slice-read-wide : tie.Need-shared-slice-read-wide
+shared-slice-read-wide c = search needs
+
+wide-requires : tie.Need-wide-requires
+wide-requires c κs = search needs
+
+add-wide : tie.Need-add-wide
+add-wide c = search needs
+
+shared-slice-read-wide-2 : tie.Need-shared-slice-read-wide-2
+shared-slice-read-wide-2 c = search needs
+
+wide-requires-2 : tie.Need-wide-requires-2
+wide-requires-2 c κs = search needs
+
+mul-result : tie.Need-mul-result
+mul-result c = search needs
+
+add-result : tie.Need-add-result
+add-result c = search needs
+
+returns : tie.Need-returns
+returns c =
+    let x = c .before .before .before .before .before .args in
+    let b = now (x .part) in
+    let k = x .k in
+    omega (arith, word-more b k (k + 1) 1 (omega arith) (omega arith), word-more b (k + 1) (k + 2) 0 (omega arith) (omega arith), word-none b (k + 2))
+
+pub u16-at-spec : {M : Type 1} → statement M
+u16-at-spec =
+    tie.close
+    (tie.spec
+    shared-slice-read-wide
+    wide-requires
+    add-wide
+    shared-slice-read-wide-2
+    wide-requires-2
+    mul-result
+    add-result
+    returns)

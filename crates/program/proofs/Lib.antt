@@ -1,0 +1,11 @@
+-- The laws that callers cite, each file named after what it is about.
+pub mod Form
+pub mod Number
+pub mod Decoding
+pub mod Following
+pub mod Loop
+pub mod Public
+pub mod Offsets
+pub mod Stretch
+pub mod Section
+pub mod Proper

@@ -1,0 +1,138 @@
+-- Laws of a run at two offsets: what differs is only where it ends. Assumes nothing.
+use mathlib.Core.Path.{_≡_, refl, sym, _∙_, ap}
+use mathlib.Core.Bool.{Bool, true, false}
+use mathlib.Core.Logic.{_⊎_, inl, inr}
+use Prim.Native.Nat.{ℕ, zero, suc, _+_, _-_, _*_, _^_, _≤_, _<_}
+use native.Mathlib.Omega.{arith}
+use lib.Dec.{eqb, ltb}
+use borrow.Author.Tests.{lt-ltb, le-ltb, ltb-true, ltb-false}
+use Rattle.failure.specs.Choice.{if_then_else_}
+use Rattle.failure.specs.Outcome as Outcome
+use Rattle.failure.specs.Outcome.{Outcome, Answer, _>>=_}
+use Rattle.failure.specs.Failure.{BadEkoRecord}
+use Rattle.mem.specs.Memory.{Memory}
+use Rattle.arch.specs.Arch.{Arch}
+use Rattle.program.specs.declared.decode.Op.{Op}
+use Rattle.program.specs.declared.decode.Op.the-variants.{End, Advance, Set, Remember, Recall}
+use Rattle.program.specs.Operation.{Decoding, decode}
+use Rattle.program.specs.Run.{Stand, Ran, Turn, On, Ends, Refused, advance, act, turned, runFrom, begin, run}
+
+-- the run answers
+pub record Answers (o : Outcome Ran) : Type 0 where
+  pub ran : Ran
+  pub is : o ≡ Answer ran
+
+-- a run that is not refused answers
+pub answers : (o : Outcome Ran) → ((n : ℕ) → o ≡ Outcome.Refused n → ⊥) → Answers o
+answers (Outcome.Refused n) f = absurd (f n refl)
+answers (Answer r) f = record { ran = r; is = refl }
+
+-- where a run stops before the program's END
+abbrev pub stopped : Stand → Ran
+stopped s = record { state = s .state; after = 0 }
+
+-- at a lower offset an advance comes to the same, or the run ends before it
+advance-offsets : (lo hi to : ℕ) (s : Stand) → lo ≤ hi → (advance lo to s ≡ advance hi to s) ⊎ (advance lo to s ≡ Ends (stopped s))
+advance-offsets lo hi to s h = over (ltb (2 ^ 64 - 1) to) refl
+  where
+    low : ltb (2 ^ 64 - 1) to ≡ false → (t : Bool) → ltb lo to ≡ t →
+        (advance lo to s ≡ advance hi to s) ⊎ (advance lo to s ≡ Ends (stopped s))
+    low o true p = inr (rw (o, p))
+    low o false p = inl (rw (o, p, le-ltb hi to (omega (arith, ltb-false lo to p))))
+
+    over : (t : Bool) → ltb (2 ^ 64 - 1) to ≡ t → (advance lo to s ≡ advance hi to s) ⊎ (advance lo to s ≡ Ends (stopped s))
+    over true o = inl (rw o)
+    over false o = low o (ltb lo to) refl
+
+-- so does every operation
+act-offsets :
+    (a : Arch) (lo hi next : ℕ) (op : Op) (s : Stand) → lo ≤ hi →
+    (act a lo next op s ≡ act a hi next op s) ⊎ (act a lo next op s ≡ Ends (stopped s))
+unfolding act
+act-offsets a lo hi next End s h = inl refl
+act-offsets a lo hi next (Advance n) s h = advance-offsets lo hi (s .at + n * a .unit) s h
+act-offsets a lo hi next (Set r) s h = inl refl
+act-offsets a lo hi next Remember s h = inl refl
+act-offsets a lo hi next Recall s h = inl refl
+
+module _ (m : Memory) (a : Arch) (limit lo hi : ℕ) (below : lo ≤ hi) where
+  lower-from : (left pos : ℕ) (s : Stand) → Answers (runFrom left m a limit hi pos s) → Answers (runFrom left m a limit lo pos s)
+  lower-from zero pos s = λ r. r
+  lower-from (suc left) pos s = opened (decode m limit pos) (λ p s′ r. lower-from left p s′ r)
+    where
+      on : (next : ℕ) → ((s′ : Stand) → Answers (runFrom left m a limit hi next s′) → Answers (runFrom left m a limit lo next s′)) →
+          (t : Turn) → Answers (turned t (λ s′. runFrom left m a limit hi next s′)) →
+          Answers (turned t (λ s′. runFrom left m a limit lo next s′))
+      on next f (On s′) r = f s′ r
+      on next f (Ends e) r = r
+      on next f (Refused n) r = r
+
+      either : (d : Decoding) →
+          ((s′ : Stand) → Answers (runFrom left m a limit hi (d .next) s′) → Answers (runFrom left m a limit lo (d .next) s′)) →
+          (t t′ : Turn) → (t′ ≡ t) ⊎ (t′ ≡ Ends (stopped s)) →
+          Answers (turned t (λ s′. runFrom left m a limit hi (d .next) s′)) →
+          Answers (turned t′ (λ s′. runFrom left m a limit lo (d .next) s′))
+      either d f t t′ (inl e) r = rw e (on (d .next) f t r)
+      either d f t t′ (inr e) r = rw e (record { ran = stopped s; is = refl })
+
+      opened : (o : Outcome Decoding) →
+          ((p : ℕ) (s′ : Stand) → Answers (runFrom left m a limit hi p s′) → Answers (runFrom left m a limit lo p s′)) →
+          Answers (o >>= λ d. turned (act a hi (d .next) (d .op) s) (λ s′. runFrom left m a limit hi (d .next) s′)) →
+          Answers (o >>= λ d. turned (act a lo (d .next) (d .op) s) (λ s′. runFrom left m a limit lo (d .next) s′))
+      opened (Outcome.Refused n) f r = record { ran = r .ran; is = r .is }
+      opened (Answer d) f r =
+          either d (f (d .next)) (act a hi (d .next) (d .op) s) (act a lo (d .next) (d .op) s)
+          (act-offsets a lo hi (d .next) (d .op) s below) r
+
+  -- a run not refused at an offset is not refused at any lower one
+  pub lower : (program : ℕ) → Answers (run m a program limit hi) → Answers (run m a program limit lo)
+  unfolding run
+  lower program = go (eqb program 0) refl
+    where
+      go : (t : Bool) → eqb program 0 ≡ t → Answers (run m a program limit hi) → Answers (run m a program limit lo)
+      go true e = λ r. rw e (rw e at r)
+      go false e = λ r. rw e (lower-from (limit - program) program (begin a) (rw e at r))
+
+  higher-from :
+      (left pos : ℕ) (s : Stand) (r : Ran) → (r .after ≡ 0 → ⊥) → runFrom left m a limit lo pos s ≡ Answer r →
+      runFrom left m a limit hi pos s ≡ Answer r
+  higher-from zero pos s r whole = λ e. e
+  higher-from (suc left) pos s r whole = opened (decode m limit pos) (λ p s′ e. higher-from left p s′ r whole e)
+    where
+      on : (next : ℕ) →
+          ((s′ : Stand) → runFrom left m a limit lo next s′ ≡ Answer r → runFrom left m a limit hi next s′ ≡ Answer r) →
+          (t : Turn) → turned t (λ s′. runFrom left m a limit lo next s′) ≡ Answer r →
+          turned t (λ s′. runFrom left m a limit hi next s′) ≡ Answer r
+      on next f (On s′) e = f s′ e
+      on next f (Ends x) e = e
+      on next f (Refused n) e = e
+
+      either : (d : Decoding) →
+          ((s′ : Stand) → runFrom left m a limit lo (d .next) s′ ≡ Answer r → runFrom left m a limit hi (d .next) s′ ≡ Answer r) →
+          (t t′ : Turn) → (t ≡ t′) ⊎ (t ≡ Ends (stopped s)) →
+          turned t (λ s′. runFrom left m a limit lo (d .next) s′) ≡ Answer r →
+          turned t′ (λ s′. runFrom left m a limit hi (d .next) s′) ≡ Answer r
+      either d f t t′ (inl p) e = on (d .next) f t′ (rw p at e)
+      either d f t t′ (inr p) e =
+          let q : Answer (stopped s) ≡ Answer r = rw p at e in
+          let cut : r .after ≡ 0 = cc in
+          absurd (whole cut)
+
+      opened : (o : Outcome Decoding) →
+          ((p : ℕ) (s′ : Stand) → runFrom left m a limit lo p s′ ≡ Answer r → runFrom left m a limit hi p s′ ≡ Answer r) →
+          (o >>= λ d. turned (act a lo (d .next) (d .op) s) (λ s′. runFrom left m a limit lo (d .next) s′)) ≡ Answer r →
+          (o >>= λ d. turned (act a hi (d .next) (d .op) s) (λ s′. runFrom left m a limit hi (d .next) s′)) ≡ Answer r
+      opened (Outcome.Refused n) f e = e
+      opened (Answer d) f e =
+          either d (f (d .next)) (act a lo (d .next) (d .op) s) (act a hi (d .next) (d .op) s)
+          (act-offsets a lo hi (d .next) (d .op) s below) e
+
+  -- a run that reads to END at an offset, and so has an after-address, is the same at every higher one
+  pub higher :
+      (program : ℕ) (r : Ran) → (r .after ≡ 0 → ⊥) → run m a program limit lo ≡ Answer r → run m a program limit hi ≡ Answer r
+  unfolding run
+  higher program r whole = go (eqb program 0) refl
+    where
+      go : (t : Bool) → eqb program 0 ≡ t → run m a program limit lo ≡ Answer r → run m a program limit hi ≡ Answer r
+      go true p = λ e. rw p (rw p at e)
+      go false p = λ e. rw p (higher-from (limit - program) program (begin a) r whole (rw p at e))

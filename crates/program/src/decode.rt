@@ -1,0 +1,216 @@
+// Operations read from memory: what a first byte says, and the numbers that follow it.
+ghost use mathlib.Core.Path.{_≡_};
+ghost use Prim.Native.Nat.{_≤_, _<_};
+ghost use Rattle.mem.specs.Memory.{lent};
+ghost use Rattle.leb.specs.Reader.{ulebAt, numbered};
+ghost use Rattle.program.specs.Operation as Operation;
+ghost use Rattle.program.specs.Answers.{told, decoded};
+use failure::BAD_EKO_RECORD;
+use failure::OUTSIDE_MEMORY;
+use leb::Byte;
+use leb::byte_at;
+use leb::folded;
+use leb::uleb_at;
+
+// An operation that sets the rules of the state.
+pub enum Rule {
+    Units(u32),
+    Save(u32, u32),
+    Sp(u32),
+    Fp(u32),
+    Restore(u32),
+    Entry,
+    Frame,
+    FrameRegs,
+}
+
+// An operation.
+pub enum Op {
+    End,
+    Advance(u32),
+    Set(Rule),
+    Remember,
+    Recall,
+}
+
+// An operation that lacks its last number.
+pub enum One {
+    Save(u32),
+    Sp,
+    Fp,
+    Units,
+    Advance,
+    Restore,
+}
+
+// What a first byte says: an operation, one that a number completes, a register and a slot to come, or no operation.
+pub enum Form {
+    Whole(Op),
+    WithNumber(One),
+    WithPair,
+    Unknown,
+}
+
+// A number and the position after it, or a refusal.
+pub enum Number {
+    Is(u32, usize),
+    Refused(u32),
+}
+
+// An operation and the position after it, or a refusal.
+pub enum Decoded {
+    Is(Op, usize),
+    Refused(u32),
+}
+
+// What the bytes c0 to df say.
+fn form_named(code: u8) -> Form
+    requires { ⌜ (192 ≤ code) × (code < 224) ⌝ }
+    ensures { λ r. ⌜ r ≡ Operation.formOf code ⌝ }
+{
+    match code {
+        0xc0 => Form::WithNumber(One::Sp),
+        0xc1 => Form::WithNumber(One::Fp),
+        0xc2 => Form::WithNumber(One::Units),
+        0xc3 => Form::WithNumber(One::Advance),
+        0xc4 => Form::WithPair,
+        0xc5 => Form::WithNumber(One::Restore),
+        0xc6 => Form::Whole(Op::Set(Rule::Entry)),
+        0xc7 => Form::Whole(Op::Remember),
+        0xc8 => Form::Whole(Op::Recall),
+        0xc9 => Form::Whole(Op::Set(Rule::Frame)),
+        0xca => Form::Whole(Op::Set(Rule::FrameRegs)),
+        _ => Form::Unknown,
+    }
+}
+
+// What a first byte says.
+pub fn form_of(code: u8) -> Form
+    ensures { λ r. ⌜ r ≡ Operation.formOf code ⌝ }
+{
+    if code == 0 {
+        return Form::Whole(Op::End);
+    }
+    if code < 0x40 {
+        return Form::Whole(Op::Advance(code as u32));
+    }
+    if code < 0x80 {
+        return Form::Whole(Op::Set(Rule::Units((code - 0x40) as u32)));
+    }
+    if code < 0xc0 {
+        return Form::WithNumber(One::Save((code - 0x80) as u32));
+    }
+    if code < 0xe0 {
+        return form_named(code);
+    }
+    Form::Whole(Op::Set(Rule::Restore((code - 0xe0) as u32)))
+}
+
+// The operation that a number completes.
+pub fn completed(o: One, n: u32) -> Op
+    ensures { λ r. ⌜ r ≡ Operation.completed o n ⌝ }
+{
+    match o {
+        One::Save(reg) => Op::Set(Rule::Save(reg, n)),
+        One::Sp => Op::Set(Rule::Sp(n)),
+        One::Fp => Op::Set(Rule::Fp(n)),
+        One::Units => Op::Set(Rule::Units(n)),
+        One::Advance => Op::Advance(n),
+        One::Restore => Op::Set(Rule::Restore(n)),
+    }
+}
+
+// The number at a position below the limit.
+pub fn number_at<'a>(
+    section: &'a [u8],
+    section_base: usize,
+    stack: &'a [u8],
+    stack_base: usize,
+    pos: usize,
+    limit: usize,
+) -> Number
+    ensures { λ r. ⌜
+        told r ≡
+        numbered (ulebAt (lent (now (section .entry)) «section_base» (now (stack .entry)) «stack_base» .regions) limit pos)
+        ⌝ }
+{
+    match folded(uleb_at(section, section_base, stack, stack_base, pos, limit)) {
+        leb::Number::Is(v, next) => Number::Is(v as u32, next),
+        leb::Number::Refused(n) => Number::Refused(n),
+    }
+}
+
+// What follows a first byte.
+fn rest_at<'a>(
+    section: &'a [u8],
+    section_base: usize,
+    stack: &'a [u8],
+    stack_base: usize,
+    pos: usize,
+    limit: usize,
+    form: Form,
+) -> Decoded
+    ensures { λ r. ⌜
+        decoded r ≡
+        Operation.restAt (lent (now (section .entry)) «section_base» (now (stack .entry)) «stack_base» .regions) limit pos form
+        ⌝ }
+{
+    match form {
+        Form::Whole(op) => Decoded::Is(op, pos),
+        Form::WithNumber(o) => match number_at(
+            section,
+            section_base,
+            stack,
+            stack_base,
+            pos,
+            limit,
+        ) {
+            Number::Is(n, next) => Decoded::Is(completed(o, n), next),
+            Number::Refused(n) => Decoded::Refused(n),
+        },
+        Form::WithPair => match number_at(section, section_base, stack, stack_base, pos, limit) {
+            Number::Is(reg, mid) => match number_at(
+                section,
+                section_base,
+                stack,
+                stack_base,
+                mid,
+                limit,
+            ) {
+                Number::Is(slot, next) => Decoded::Is(Op::Set(Rule::Save(reg, slot)), next),
+                Number::Refused(n) => Decoded::Refused(n),
+            },
+            Number::Refused(n) => Decoded::Refused(n),
+        },
+        Form::Unknown => Decoded::Refused(BAD_EKO_RECORD),
+    }
+}
+
+// The operation at a position below the limit.
+pub fn decode<'a>(
+    section: &'a [u8],
+    section_base: usize,
+    stack: &'a [u8],
+    stack_base: usize,
+    pos: usize,
+    limit: usize,
+) -> Decoded
+    ensures { λ r. ⌜
+        decoded r ≡
+        Operation.decode (lent (now (section .entry)) «section_base» (now (stack .entry)) «stack_base» .regions) limit pos
+        ⌝ }
+{
+    match byte_at(section, section_base, stack, stack_base, pos, limit) {
+        Byte::Is(code) => rest_at(
+            section,
+            section_base,
+            stack,
+            stack_base,
+            pos + 1,
+            limit,
+            form_of(code),
+        ),
+        Byte::Limit => Decoded::Refused(BAD_EKO_RECORD),
+        Byte::Outside => Decoded::Refused(OUTSIDE_MEMORY),
+    }
+}

@@ -1,0 +1,25 @@
+-- `state::State::restore` meets its contract. Assumes nothing.
+use mathlib.Core.Path.{sym, _∙_, ap}
+use borrow.Author.Needs.{needs}
+use borrow.Author.Tests.{not-true, not-false}
+use Rattle.state.specs.Answers.{next}
+use Rattle.state.proofs.Public.{restore-known, restore-unknown}
+use Rattle.state.proofs.State.restore.Statement.{statement}
+use Rattle.state.proofs.State.restore.Tie as tie
+
+is-known-requires : tie.Need-is-known-requires
+is-known-requires c κs = search needs
+
+returns : tie.Need-returns
+returns c = ap (next _) (restore-unknown _ _ _ (sym (c .before .is-known .ensures) ∙ not-true _ (c .if1 .taken)))
+
+restore-by-requires : tie.Need-restore-by-requires
+restore-by-requires c κs = search needs
+
+returns-2 : tie.Need-returns-2
+returns-2 c =
+    c .restore-by .ensures ∙
+    ap (next _) (restore-known _ _ _ (sym (c .before .before .is-known .ensures) ∙ not-false _ (c .before .if1 .left)))
+
+pub restore-spec : {M : Type 1} → statement M
+restore-spec = tie.close (tie.spec is-known-requires returns restore-by-requires returns-2)

@@ -1,0 +1,43 @@
+-- Document 01's number and values for each case of this crate's answers.
+use mathlib.Core.Option.{Option, some, none}
+use Prim.Native.Nat.{ℕ}
+use Rattle.failure.specs.Outcome.{Outcome, Refused, Answer}
+use Rattle.failure.specs.Failure.{BadEkoRecord, BadOpening}
+use Rattle.state.specs.declared.State.{State}
+use Rattle.state.specs.declared.Slot.{Slot}
+use Rattle.state.specs.declared.Slot.the-variants as slot
+use Rattle.state.specs.declared.Status.{Status}
+use Rattle.state.specs.declared.Status.the-variants as status
+use Rattle.state.specs.declared.Next.{Next}
+use Rattle.state.specs.Save as Save
+use Rattle.state.specs.Save.{Change, Done, OutOfRange, Full}
+
+-- a change: a 33rd register is 18 as the other faults of a save are
+abbrev pub changed : Change → Outcome State
+changed (Done st) = Answer st
+changed OutOfRange = Refused BadEkoRecord
+changed Full = Refused BadEkoRecord
+changed Save.BadOpening = Refused BadOpening
+
+-- a change as the code hands it back: the next state, or for a refusal the one that came in
+abbrev pub next : State → Change → Next
+next st (Done st′) = record { status = status.Done; state = st′ }
+next st OutOfRange = record { status = status.OutOfRange; state = st }
+next st Full = record { status = status.Full; state = st }
+next st Save.BadOpening = record { status = status.BadOpening; state = st }
+
+-- and back
+abbrev pub changeBy : Status → State → Change
+changeBy status.Done st = Done st
+changeBy status.OutOfRange st = OutOfRange
+changeBy status.Full st = Full
+changeBy status.BadOpening st = Save.BadOpening
+
+abbrev pub changeOf : Next → Change
+changeOf n = changeBy (n .status) (n .state)
+
+-- a register's slot, none if it is not saved
+abbrev pub slotted : Slot → Outcome (Option ℕ)
+slotted (slot.In s) = Answer (some s)
+slotted slot.Unsaved = Answer none
+slotted slot.BadOpening = Refused BadOpening

@@ -1,0 +1,267 @@
+// Unwind states: ps-unwind's `State`, by value (document 01, "The state program").
+// `State::entry`, `State::restore` refuse an architecture other than 1 and 2 with 28. `at_entry` and `restore_by` are for the
+// crates above, which have tested the number: there any other stands for 2.
+ghost use mathlib.Core.Path.{_≡_};
+ghost use Prim.Native.Nat.{_≤_, _<_, _-_};
+ghost use Rattle.arch.specs.Arch.{numbers};
+ghost use Rattle.state.specs.State as Spec;
+ghost use Rattle.state.specs.Pairs as Pairs;
+ghost use Rattle.state.specs.Save as Save;
+ghost use Rattle.state.specs.Restore as Restore;
+ghost use Rattle.state.specs.Public as Public;
+ghost use Rattle.state.specs.Answers.{next};
+use arch::is_known;
+use arch::numbers;
+
+// The most pairs that a state holds.
+pub const MAX_SAVED: usize = 32;
+
+// The unwind state at one instruction: CFA = (sp or fp) + 8 * cfa_units; each saved register is at CFA - 8 * slot.
+// The pairs are regs[i], slots[i] for i below count; what stands past the count is part of the state too.
+pub struct State {
+    pub cfa_fp: bool,
+    pub cfa_units: u32,
+    pub count: usize,
+    pub regs: [u16; 32],
+    pub slots: [u16; 32],
+}
+
+// The place of a register's pair.
+pub enum Found {
+    At(usize),
+    Nowhere,
+}
+
+// Whether a state was changed; a 33rd register is told apart from the other faults of a save.
+pub enum Status {
+    Done,
+    OutOfRange,
+    Full,
+    BadOpening,
+}
+
+// The slot of a register.
+pub enum Slot {
+    In(u16),
+    Unsaved,
+    BadOpening,
+}
+
+// A state after a call: the next one, or for a refusal the one that came in.
+pub struct Next {
+    pub status: Status,
+    pub state: State,
+}
+
+// A register or a slot as a number of the width that `save` and `restore` take.
+fn wide(x: u16) -> usize
+    ensures { λ r. ⌜ r ≡ x ⌝ }
+{
+    x as usize
+}
+
+// The first of the first `count` places where a register stands.
+fn seek(regs: &[u16; 32], count: usize, reg: usize) -> Found
+    requires { ⌜ count ≤ 32 ⌝ }
+    ensures { λ r. ⌜ r ≡ Pairs.placeFrom count 0 (now (regs .entry)) reg ⌝ }
+{
+    let mut i: usize = 0;
+    while i < count {
+        if wide(regs[i]) == reg {
+            return Found::At(i);
+        }
+        i += 1;
+    }
+    Found::Nowhere
+}
+
+// The numbers after place i, up to place last, copied down one place.
+fn copy_down(a: &mut [u16; 32], i: usize, last: usize)
+    requires { ⌜ (i ≤ last) × (last < 32) ⌝ }
+    ensures { λ _. ⌜ now (a .exit) ≡ Restore.copyDown (last - i) i (now (a .entry)) ⌝ }
+{
+    let mut k = i;
+    while k < last {
+        a[k] = a[k + 1];
+        k += 1;
+    }
+}
+
+// The entry state.
+pub fn at_entry(arch: u8) -> State
+    ensures { λ r. ⌜ r ≡ Spec.entry (numbers arch) ⌝ }
+{
+    let a = numbers(arch);
+    let mut st = State {
+        cfa_fp: false,
+        cfa_units: a.entry_cfa,
+        count: 0,
+        regs: [0; 32],
+        slots: [0; 32],
+    };
+    if a.entry_ra_slot != 0 {
+        st.regs[0] = a.ra;
+        st.slots[0] = a.entry_ra_slot;
+        st.count = 1;
+    }
+    st
+}
+
+impl State {
+    // The entry state; for a refusal that of the numbers that stand for the architecture.
+    pub fn entry(arch: u8) -> Next
+        ensures { λ r. ⌜ r ≡ next (Spec.entry (numbers arch)) (Public.entry arch) ⌝ }
+    {
+        if !is_known(arch) {
+            return Next {
+                status: Status::BadOpening,
+                state: at_entry(arch),
+            };
+        }
+        Next {
+            status: Status::Done,
+            state: at_entry(arch),
+        }
+    }
+
+    // The slot of a register.
+    pub fn slot(self, reg: u16) -> Slot
+        ensures { λ r. ⌜ r ≡ Public.slot self reg ⌝ }
+    {
+        if MAX_SAVED < self.count {
+            return Slot::BadOpening;
+        }
+        match seek(&self.regs, self.count, reg as usize) {
+            Found::At(i) => Slot::In(self.slots[i]),
+            Found::Nowhere => Slot::Unsaved,
+        }
+    }
+
+    // The state with a register saved in a slot.
+    pub fn save(mut self, reg: usize, slot: usize) -> Next
+        ensures { λ r. ⌜ r ≡ next self (Save.save self reg slot) ⌝ }
+    {
+        if MAX_SAVED < self.count {
+            return Next {
+                status: Status::BadOpening,
+                state: self,
+            };
+        }
+        if slot == 0 {
+            return Next {
+                status: Status::OutOfRange,
+                state: self,
+            };
+        }
+        if 65535 < slot {
+            return Next {
+                status: Status::OutOfRange,
+                state: self,
+            };
+        }
+        if 65535 < reg {
+            return Next {
+                status: Status::OutOfRange,
+                state: self,
+            };
+        }
+        match seek(&self.regs, self.count, reg) {
+            Found::At(i) => {
+                self.slots[i] = slot as u16;
+                Next {
+                    status: Status::Done,
+                    state: self,
+                }
+            }
+            Found::Nowhere => {
+                let n = self.count;
+                if n == MAX_SAVED {
+                    return Next {
+                        status: Status::Full,
+                        state: self,
+                    };
+                }
+                self.regs[n] = reg as u16;
+                self.slots[n] = slot as u16;
+                self.count = n + 1;
+                Next {
+                    status: Status::Done,
+                    state: self,
+                }
+            }
+        }
+    }
+
+    // The state without a register's pair, if it has one.
+    fn without(mut self, reg: usize) -> State
+        requires { ⌜ self .count ≤ 32 ⌝ }
+        ensures { λ r. ⌜ r ≡ Restore.without self reg ⌝ }
+    {
+        match seek(&self.regs, self.count, reg) {
+            Found::At(i) => {
+                let last = self.count - 1;
+                copy_down(&mut self.regs, i, last);
+                copy_down(&mut self.slots, i, last);
+                self.count = last;
+                self
+            }
+            Found::Nowhere => self,
+        }
+    }
+
+    // A register back to its entry rule, by the numbers of an architecture.
+    pub fn restore_by(self, arch: u8, reg: usize) -> Next
+        ensures { λ r. ⌜ r ≡ next self (Restore.restore (numbers arch) self reg) ⌝ }
+    {
+        let a = numbers(arch);
+        if MAX_SAVED < self.count {
+            return Next {
+                status: Status::BadOpening,
+                state: self,
+            };
+        }
+        let st = self.without(reg);
+        if reg != a.ra as usize {
+            return Next {
+                status: Status::Done,
+                state: st,
+            };
+        }
+        if a.entry_ra_slot == 0 {
+            return Next {
+                status: Status::Done,
+                state: st,
+            };
+        }
+        let saved = st.save(reg, a.entry_ra_slot as usize);
+        let status = saved.status;
+        match status {
+            Status::Done => saved,
+            Status::OutOfRange => Next {
+                status: Status::OutOfRange,
+                state: self,
+            },
+            Status::Full => Next {
+                status: Status::Full,
+                state: self,
+            },
+            Status::BadOpening => Next {
+                status: Status::BadOpening,
+                state: self,
+            },
+        }
+    }
+
+    // A register back to its entry rule.
+    pub fn restore(self, arch: u8, reg: usize) -> Next
+        ensures { λ r. ⌜ r ≡ next self (Public.restore arch self reg) ⌝ }
+    {
+        if !is_known(arch) {
+            return Next {
+                status: Status::BadOpening,
+                state: self,
+            };
+        }
+        self.restore_by(arch, reg)
+    }
+}

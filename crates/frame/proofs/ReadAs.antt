@@ -174,7 +174,7 @@ module _ (a : Arch) (c : Columns a) (m : Memory) (frame : ℕ) (first : Bool) (f
   pairs-alike at (fp-word past f k low) = step-slot a c m frame at file l (rw k)
   pairs-alike at (sp-word past f k) = step-slot a c m frame at file l (rw k)
 
-  -- THE LAW: a word that passes its rules steps as it is read, where its CFA is above 0
+  -- a word that passes its rules steps as it is read, where its CFA is above 0
   pub step-as-apply :
       passes a frame first ≡ true → 0 < cfa a (readAs a frame) file → step a m frame first file ≡ apply a m (readAs a frame) file
   step-as-apply p some = go (readAs a frame .onFp && badFp (base a (readAs a frame .onFp) file)) refl

@@ -1,9 +1,9 @@
 -- Laws of `restAt` and `decode`. Assumes nothing.
-use mathlib.Core.Path.{_≡_, refl, sym, _∙_, ap}
+use mathlib.Core.Path.{_≡_, refl, sym}
 use Prim.Native.Nat.{ℕ, _+_, _≤_, _<_}
 use native.Mathlib.Omega.{arith}
 use Rattle.failure.specs.Outcome.{Outcome, Refused, Answer, _>>=_}
-use Rattle.failure.specs.Failure.{BadEkoRecord, OutsideMemory}
+use Rattle.failure.specs.Failure.{BadEkoRecord}
 use Rattle.mem.specs.Memory.{Memory}
 use Rattle.leb.specs.declared.Byte.{Byte}
 use Rattle.leb.specs.declared.Byte.the-variants as byte
@@ -17,6 +17,12 @@ use Rattle.program.specs.declared.decode.Form.{Form}
 use Rattle.program.specs.declared.decode.Form.the-variants.{Whole, WithNumber, WithPair, Unknown}
 use Rattle.program.specs.Operation.{formOf, completed, Decoding, restAt, decode}
 use Rattle.program.proofs.Number.{small}
+
+-- the slot after a register
+abbrev pub slotAt : Memory → ℕ → Read → Outcome Decoding
+slotAt m limit x = do
+  y ← numbered (ulebAt m limit (x .next))
+  Answer (record { op = Set (rule.Save (x .value) (y .value)); next = y .next })
 
 module _ (m : Memory) (limit pos : ℕ) where
   module _ (f : Form) where
@@ -91,8 +97,7 @@ rest-moves m limit pos WithPair d = go (numbered (ulebAt m limit pos)) refl
         omega (arith, small m limit (r .next) s p .next)
 
     go : (n : Outcome Read) → numbered (ulebAt m limit pos) ≡ n →
-        (n >>= λ r. numbered (ulebAt m limit (r .next)) >>= λ s.
-        Answer (record { op = Set (rule.Save (r .value) (s .value)); next = s .next })) ≡ Answer d → pos ≤ d .next
+        (n >>= λ r. slotAt m limit r) ≡ Answer d → pos ≤ d .next
     go (Refused x) p e = let z : _≡_ {A = ℕ} 0 1 = cc in absurd (omega arith)
     go (Answer r) p e = second r (small m limit pos r p .next) (numbered (ulebAt m limit (r .next))) refl e
 rest-moves m limit pos Unknown d = λ e. (let z : _≡_ {A = ℕ} 0 1 = cc in absurd (omega arith))

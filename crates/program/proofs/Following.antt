@@ -1,7 +1,7 @@
 -- Laws of `frameRegs`, and of a change as the code hands it back. Assumes nothing.
 use mathlib.Core.Path.{_≡_, refl, sym, _∙_, ap}
 use Prim.Native.Nat.{ℕ}
-use Rattle.failure.specs.Outcome.{Outcome, Refused, Answer, _>>=_}
+use Rattle.failure.specs.Outcome.{Outcome, Refused, Answer}
 use Rattle.arch.specs.Arch.{Arch}
 use Rattle.arch.specs.Answers.{inCode}
 use Rattle.arch.specs.declared.Arch2.{Arch2}

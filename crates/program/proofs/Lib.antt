@@ -5,7 +5,9 @@ pub mod Decoding
 pub mod Following
 pub mod Loop
 pub mod Public
+pub mod Enough
 pub mod Offsets
 pub mod Stretch
 pub mod Section
 pub mod Proper
+pub mod Refusals

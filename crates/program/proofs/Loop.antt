@@ -1,17 +1,17 @@
 -- A run seen from where its loop stands. Assumes nothing.
-use mathlib.Core.Path.{_≡_, refl, sym, _∙_, ap, subst}
+use mathlib.Core.Path.{_≡_, refl, sym, _∙_, ap}
 use mathlib.Core.Bool.{false}
 use mathlib.Core.List.{List, [], _∷_}
 use Prim.Native.Nat.{ℕ, zero, suc, _+_, _-_, _*_, _^_, _≤_, _<_}
 use native.Mathlib.Nat.{mul-le-mul-left}
 use native.Mathlib.Omega.{arith}
-use lib.Dec.{eqb, ltb, lit≤}
+use lib.Dec.{lit≤}
 use lib.ListN.{length, getD, length-set}
 use lib.ListN as ListN
 use lib.Seq.{getD-set-same, getD-set-other}
 use borrow.Author.Tests.{lt-ltb, le-ltb, eq-eqb, ne-eqb}
 use Rattle.failure.specs.Outcome as Outcome
-use Rattle.failure.specs.Outcome.{Outcome, Answer, _>>=_}
+use Rattle.failure.specs.Outcome.{Outcome, Answer}
 use Rattle.failure.specs.Failure.{BadEkoRecord, RememberStackOverflow}
 use Rattle.mem.specs.Memory.{Memory}
 use Rattle.arch.specs.Arch.{Arch, numbers}
@@ -22,7 +22,6 @@ use Rattle.program.specs.declared.decode.Op.{Op}
 use Rattle.program.specs.declared.decode.Op.the-variants.{End, Advance, Set, Remember, Recall}
 use Rattle.program.specs.declared.decode.Rule.{Rule}
 use Rattle.program.specs.declared.Status.the-variants as status
-use Rattle.program.specs.declared.Ended.{Ended}
 use Rattle.program.specs.Operation.{Decoding, decode}
 use Rattle.program.specs.Rule.{follow}
 use Rattle.program.specs.Run.{Stand, Ran, Turn, On, Ends, Refused, act, set, turned, runFrom, begin, run, maxRemember}

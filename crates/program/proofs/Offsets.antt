@@ -1,15 +1,13 @@
 -- Laws of a run at two offsets: what differs is only where it ends. Assumes nothing.
-use mathlib.Core.Path.{_≡_, refl, sym, _∙_, ap}
+use mathlib.Core.Path.{_≡_, refl, sym, _∙_}
 use mathlib.Core.Bool.{Bool, true, false}
 use mathlib.Core.Logic.{_⊎_, inl, inr}
-use Prim.Native.Nat.{ℕ, zero, suc, _+_, _-_, _*_, _^_, _≤_, _<_}
+use Prim.Native.Nat.{ℕ, zero, suc, _+_, _-_, _*_, _^_, _≤_}
 use native.Mathlib.Omega.{arith}
-use lib.Dec.{eqb, ltb}
-use borrow.Author.Tests.{lt-ltb, le-ltb, ltb-true, ltb-false}
-use Rattle.failure.specs.Choice.{if_then_else_}
+use lib.Dec.{eqb, ltb, lit≤}
+use borrow.Author.Tests.{le-ltb, ltb-true, ltb-false}
 use Rattle.failure.specs.Outcome as Outcome
 use Rattle.failure.specs.Outcome.{Outcome, Answer, _>>=_}
-use Rattle.failure.specs.Failure.{BadEkoRecord}
 use Rattle.mem.specs.Memory.{Memory}
 use Rattle.arch.specs.Arch.{Arch}
 use Rattle.program.specs.declared.decode.Op.{Op}
@@ -18,14 +16,14 @@ use Rattle.program.specs.Operation.{Decoding, decode}
 use Rattle.program.specs.Run.{Stand, Ran, Turn, On, Ends, Refused, advance, act, turned, runFrom, begin, run}
 
 -- the run answers
-pub record Answers (o : Outcome Ran) : Type 0 where
+pub record Answered (o : Outcome Ran) : Type 0 where
   pub ran : Ran
   pub is : o ≡ Answer ran
 
 -- a run that is not refused answers
-pub answers : (o : Outcome Ran) → ((n : ℕ) → o ≡ Outcome.Refused n → ⊥) → Answers o
-answers (Outcome.Refused n) f = absurd (f n refl)
-answers (Answer r) f = record { ran = r; is = refl }
+pub answered : (o : Outcome Ran) → ((n : ℕ) → o ≡ Outcome.Refused n → ⊥) → Answered o
+answered (Outcome.Refused n) f = absurd (f n refl)
+answered (Answer r) f = record { ran = r; is = refl }
 
 -- where a run stops before the program's END
 abbrev pub stopped : Stand → Ran
@@ -56,40 +54,40 @@ act-offsets a lo hi next Remember s h = inl refl
 act-offsets a lo hi next Recall s h = inl refl
 
 module _ (m : Memory) (a : Arch) (limit lo hi : ℕ) (below : lo ≤ hi) where
-  lower-from : (left pos : ℕ) (s : Stand) → Answers (runFrom left m a limit hi pos s) → Answers (runFrom left m a limit lo pos s)
+  lower-from : (left pos : ℕ) (s : Stand) → Answered (runFrom left m a limit hi pos s) → Answered (runFrom left m a limit lo pos s)
   lower-from zero pos s = λ r. r
   lower-from (suc left) pos s = opened (decode m limit pos) (λ p s′ r. lower-from left p s′ r)
     where
-      on : (next : ℕ) → ((s′ : Stand) → Answers (runFrom left m a limit hi next s′) → Answers (runFrom left m a limit lo next s′)) →
-          (t : Turn) → Answers (turned t (λ s′. runFrom left m a limit hi next s′)) →
-          Answers (turned t (λ s′. runFrom left m a limit lo next s′))
+      on : (next : ℕ) → ((s′ : Stand) → Answered (runFrom left m a limit hi next s′) → Answered (runFrom left m a limit lo next s′)) →
+          (t : Turn) → Answered (turned t (λ s′. runFrom left m a limit hi next s′)) →
+          Answered (turned t (λ s′. runFrom left m a limit lo next s′))
       on next f (On s′) r = f s′ r
       on next f (Ends e) r = r
       on next f (Refused n) r = r
 
       either : (d : Decoding) →
-          ((s′ : Stand) → Answers (runFrom left m a limit hi (d .next) s′) → Answers (runFrom left m a limit lo (d .next) s′)) →
+          ((s′ : Stand) → Answered (runFrom left m a limit hi (d .next) s′) → Answered (runFrom left m a limit lo (d .next) s′)) →
           (t t′ : Turn) → (t′ ≡ t) ⊎ (t′ ≡ Ends (stopped s)) →
-          Answers (turned t (λ s′. runFrom left m a limit hi (d .next) s′)) →
-          Answers (turned t′ (λ s′. runFrom left m a limit lo (d .next) s′))
+          Answered (turned t (λ s′. runFrom left m a limit hi (d .next) s′)) →
+          Answered (turned t′ (λ s′. runFrom left m a limit lo (d .next) s′))
       either d f t t′ (inl e) r = rw e (on (d .next) f t r)
       either d f t t′ (inr e) r = rw e (record { ran = stopped s; is = refl })
 
       opened : (o : Outcome Decoding) →
-          ((p : ℕ) (s′ : Stand) → Answers (runFrom left m a limit hi p s′) → Answers (runFrom left m a limit lo p s′)) →
-          Answers (o >>= λ d. turned (act a hi (d .next) (d .op) s) (λ s′. runFrom left m a limit hi (d .next) s′)) →
-          Answers (o >>= λ d. turned (act a lo (d .next) (d .op) s) (λ s′. runFrom left m a limit lo (d .next) s′))
+          ((p : ℕ) (s′ : Stand) → Answered (runFrom left m a limit hi p s′) → Answered (runFrom left m a limit lo p s′)) →
+          Answered (o >>= λ d. turned (act a hi (d .next) (d .op) s) (λ s′. runFrom left m a limit hi (d .next) s′)) →
+          Answered (o >>= λ d. turned (act a lo (d .next) (d .op) s) (λ s′. runFrom left m a limit lo (d .next) s′))
       opened (Outcome.Refused n) f r = record { ran = r .ran; is = r .is }
       opened (Answer d) f r =
           either d (f (d .next)) (act a hi (d .next) (d .op) s) (act a lo (d .next) (d .op) s)
           (act-offsets a lo hi (d .next) (d .op) s below) r
 
   -- a run not refused at an offset is not refused at any lower one
-  pub lower : (program : ℕ) → Answers (run m a program limit hi) → Answers (run m a program limit lo)
+  pub lower : (program : ℕ) → Answered (run m a program limit hi) → Answered (run m a program limit lo)
   unfolding run
   lower program = go (eqb program 0) refl
     where
-      go : (t : Bool) → eqb program 0 ≡ t → Answers (run m a program limit hi) → Answers (run m a program limit lo)
+      go : (t : Bool) → eqb program 0 ≡ t → Answered (run m a program limit hi) → Answered (run m a program limit lo)
       go true e = λ r. rw e (rw e at r)
       go false e = λ r. rw e (lower-from (limit - program) program (begin a) (rw e at r))
 
@@ -136,3 +134,22 @@ module _ (m : Memory) (a : Arch) (limit lo hi : ℕ) (below : lo ≤ hi) where
       go : (t : Bool) → eqb program 0 ≡ t → run m a program limit lo ≡ Answer r → run m a program limit hi ≡ Answer r
       go true p = λ e. rw p (rw p at e)
       go false p = λ e. rw p (higher-from (limit - program) program (begin a) r whole (rw p at e))
+
+-- the run at 2^32 - 1 that reads to END is the run at 2^64 - 1
+pub whole-at-32-bits :
+    (m : Memory) (a : Arch) (program limit : ℕ) (r : Ran) → (r .after ≡ 0 → ⊥) → run m a program limit (2 ^ 32 - 1) ≡ Answer r →
+    run m a program limit (2 ^ 32 - 1) ≡ run m a program limit (2 ^ 64 - 1)
+whole-at-32-bits m a program limit r whole e =
+    e ∙ sym (higher m a limit (2 ^ 32 - 1) (2 ^ 64 - 1) (lit≤ tt) program r whole e)
+
+-- a program that reads to END at an offset is refused at none
+pub whole-never-refused :
+    (m : Memory) (a : Arch) (program limit off off′ : ℕ) (r : Ran) → (r .after ≡ 0 → ⊥) → run m a program limit off ≡ Answer r →
+    Answered (run m a program limit off′)
+whole-never-refused m a program limit off off′ r whole e = go (ltb off off′) refl
+  where
+    go : (t : Bool) → ltb off off′ ≡ t → Answered (run m a program limit off′)
+    go true p =
+        let below : off ≤ off′ = omega (arith, ltb-true off off′ p) in
+        record { ran = r; is = higher m a limit off off′ below program r whole e }
+    go false p = lower m a limit off′ off (ltb-false off off′ p) program (record { ran = r; is = e })

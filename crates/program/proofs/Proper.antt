@@ -1,8 +1,8 @@
--- The state of a run holds at most 32 pairs, with no register in two; no save or restore of it is refused with 28. Assumes nothing.
-use mathlib.Core.Path.{_≡_, refl, sym, _∙_, ap, subst}
+-- The state of a run holds at most 32 pairs, with no register in two. Assumes nothing.
+use mathlib.Core.Path.{_≡_, refl, subst}
 use mathlib.Core.Bool.{Bool, true, false}
 use mathlib.Core.List.{List, [], _∷_}
-use Prim.Native.Nat.{ℕ, zero, suc, _+_, _-_, _*_, _^_, _≤_, _<_}
+use Prim.Native.Nat.{ℕ, zero, suc, _+_, _-_, _*_, _^_}
 use native.Mathlib.Omega.{arith}
 use lib.Dec.{eqb, ltb}
 use lib.ListN.{length}
@@ -23,16 +23,16 @@ use Rattle.program.specs.declared.decode.Op.{Op}
 use Rattle.program.specs.declared.decode.Op.the-variants.{End, Advance, Set, Remember, Recall}
 use Rattle.program.specs.Operation.{Decoding, decode}
 use Rattle.program.specs.Rule.{withCfa, frameRegs, follow}
-use Rattle.program.specs.Run.{Stand, Ran, Turn, On, Ends, Refused, maxRemember, advance, remember, recall, set, act, turned, runFrom, begin, run}
+use Rattle.program.specs.Run.{Stand, Ran, Turn, On, Ends, Refused, maxRemember, recall, set, act, turned, runFrom, begin, run}
 
 -- what gives a state is a change that was done
-done : (x : Change) (st : State) → changed x ≡ Answer st → x ≡ Done st
+pub done : (x : Change) (st : State) → changed x ≡ Answer st → x ≡ Done st
 done (Done s) st e = cc
 done OutOfRange st e = let z : _≡_ {A = ℕ} 0 1 = cc in absurd (omega arith)
 done Full st e = let z : _≡_ {A = ℕ} 0 1 = cc in absurd (omega arith)
 done BadOpening st e = let z : _≡_ {A = ℕ} 0 1 = cc in absurd (omega arith)
 
-cfa-proper : (fp : Bool) (units : ℕ) (st : State) → Proper st → Proper (withCfa fp units st)
+pub cfa-proper : (fp : Bool) (units : ℕ) (st : State) → Proper st → Proper (withCfa fp units st)
 cfa-proper fp units st p = record { regs = p .regs; slots = p .slots; count = p .count; distinct = p .distinct }
 
 -- a state given as an answer
@@ -63,22 +63,22 @@ follow-proper a Frame st st′ p e = frame-proper a (withCfa true 2 st) st′ (c
 follow-proper a FrameRegs st st′ p e = frame-proper a st st′ p e
 
 -- each of them is proper
-abbrev Each : List State → Type 0
+abbrev pub Each : List State → Type 0
 Each [] = Unit
 Each (st ∷ sts) = Proper st × Each sts
 
 -- where a run stands
-record Stands (s : Stand) : Type 0 where
+pub record Stands (s : Stand) : Type 0 where
   pub state : Proper (s .state)
   pub remembered : Each (s .remembered)
 
 -- what a turn leaves
-abbrev Leaves : Turn → Type 0
+abbrev pub Leaves : Turn → Type 0
 Leaves (On s) = Stands s
 Leaves (Ends r) = Proper (r .state)
 Leaves (Refused n) = Unit
 
-act-leaves : (a : Arch) (off next : ℕ) (op : Op) (s : Stand) → Stands s → Leaves (act a off next op s)
+pub act-leaves : (a : Arch) (off next : ℕ) (op : Op) (s : Stand) → Stands s → Leaves (act a off next op s)
 unfolding act
 act-leaves a off next End s p = p .state
 act-leaves a off next (Advance n) s p = over (ltb (2 ^ 64 - 1) to) (ltb off to)

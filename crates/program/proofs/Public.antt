@@ -2,11 +2,11 @@
 use mathlib.Core.Path.{_≡_, refl, sym}
 use mathlib.Core.Bool.{true, false}
 use Prim.Native.Nat.{ℕ}
-use Rattle.failure.specs.Outcome.{Outcome, Refused, _>>=_}
+use Rattle.failure.specs.Outcome.{Refused}
 use Rattle.failure.specs.Failure.{BadOpening}
 use Rattle.mem.specs.Memory.{Lent}
 use Rattle.mem.specs.Opening.{opens}
-use Rattle.arch.specs.Arch.{Arch, numbers, isKnown}
+use Rattle.arch.specs.Arch.{numbers, isKnown}
 use Rattle.arch.proofs.Known.{unknown-refused, known-goes-on}
 use Rattle.program.specs.Run as Run
 use Rattle.program.specs.Public.{run}

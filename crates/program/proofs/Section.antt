@@ -1,9 +1,9 @@
 -- A run whose program and limit lie in the section is the same whatever else is lent: every byte that it reads lies in the first
 -- region. Assumes nothing.
-use mathlib.Core.Path.{_≡_, refl, sym, _∙_, ap}
+use mathlib.Core.Path.{_≡_, refl, _∙_, ap}
 use mathlib.Core.Bool.{Bool, true, false}
 use mathlib.Core.List.{List, _∷_}
-use Prim.Native.Nat.{ℕ, zero, suc, _+_, _-_, _≤_, _<_}
+use Prim.Native.Nat.{ℕ, zero, suc, _+_, _-_, _≤_}
 use native.Mathlib.Omega.{arith}
 use lib.Dec.{leb, eqb}
 use lib.ListN.{length}
@@ -18,22 +18,13 @@ use Rattle.mem.proofs.Place.{holds-when}
 use Rattle.arch.specs.Arch.{Arch}
 use Rattle.leb.specs.declared.Byte.{Byte}
 use Rattle.leb.specs.declared.Uleb.{Uleb}
-use Rattle.leb.specs.Reader.{asByte, byteAt, fromByte, ulebIn, atMost32Bits, ulebAt, Read, numbered, numberedByte}
-use Rattle.program.specs.declared.decode.Op.{Op}
+use Rattle.leb.specs.Reader.{byteAt, fromByte, ulebIn, atMost32Bits, ulebAt, Read, numbered, numberedByte}
 use Rattle.program.specs.declared.decode.Form.{Form}
 use Rattle.program.specs.declared.decode.Form.the-variants.{Whole, WithNumber, WithPair, Unknown}
-use Rattle.program.specs.declared.decode.Op.the-variants.{Set}
-use Rattle.program.specs.declared.decode.Rule.the-variants as rule
-use Rattle.program.specs.Operation.{formOf, completed, Decoding, restAt, decode}
+use Rattle.program.specs.Operation.{formOf, Decoding, restAt, decode}
 use Rattle.program.specs.Run.{Stand, Ran, Turn, On, Ends, Refused, act, turned, runFrom, begin, run}
 use Rattle.program.proofs.Number.{small}
-use Rattle.program.proofs.Decoding.{decode-moves}
-
--- the slot after a register
-abbrev slotAt : Memory → ℕ → Read → Outcome Decoding
-slotAt m limit x = do
-  y ← numbered (ulebAt m limit (x .next))
-  Answer (record { op = Set (rule.Save (x .value) (y .value)); next = y .next })
+use Rattle.program.proofs.Decoding.{slotAt, decode-moves}
 
 -- two memories with the same first region, in which the limit lies
 module _ (r : Region) (m m′ : Memory) (limit : ℕ) (inside : limit ≤ r .base + size r) where

@@ -1,6 +1,6 @@
 -- The stretch of offsets at which a run ends as it does: from the offset reached by the last advance to the target of the advance
 -- that ended it. All offsets of a stretch give the same run. Assumes nothing.
-use mathlib.Core.Path.{_≡_, refl, sym, _∙_, ap, subst}
+use mathlib.Core.Path.{_≡_, refl, sym, ap, subst}
 use mathlib.Core.Bool.{Bool, true, false}
 use mathlib.Core.Option.{Option, some, none}
 use mathlib.Core.List.{List, [], _∷_}

@@ -1,5 +1,4 @@
 -- Document 01's number and values for each case of this crate's answers.
-use Prim.Native.Nat.{ℕ}
 use Rattle.failure.specs.Outcome as Outcome
 use Rattle.failure.specs.Outcome.{Outcome, Answer}
 use Rattle.leb.specs.Reader.{Read}

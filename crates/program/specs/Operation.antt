@@ -6,7 +6,6 @@ use Rattle.failure.specs.Outcome.{Outcome, Refused, Answer, _>>=_}
 use Rattle.failure.specs.Failure.{BadEkoRecord}
 use Rattle.mem.specs.Memory.{Memory}
 use Rattle.leb.specs.Reader.{byteAt, ulebAt, numbered, numberedByte}
-use Rattle.program.specs.declared.decode.Rule.{Rule}
 use Rattle.program.specs.declared.decode.Rule.the-variants as rule
 use Rattle.program.specs.declared.decode.Op.{Op}
 use Rattle.program.specs.declared.decode.Op.the-variants.{End, Advance, Set, Remember, Recall}

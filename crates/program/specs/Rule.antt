@@ -1,7 +1,7 @@
 -- What the operations that set the state's rules come to.
 use mathlib.Core.Bool.{Bool, true, false}
 use Prim.Native.Nat.{ℕ}
-use Rattle.failure.specs.Outcome.{Outcome, Refused, Answer, _>>=_}
+use Rattle.failure.specs.Outcome.{Outcome, Answer, _>>=_}
 use Rattle.arch.specs.Arch.{Arch}
 use Rattle.state.specs.declared.State.{State}
 use Rattle.state.specs.State.{entry}

@@ -13,7 +13,7 @@ use Rattle.state.specs.declared.State.{State}
 use Rattle.state.specs.State.{entry}
 use Rattle.program.specs.declared.decode.Op.{Op}
 use Rattle.program.specs.declared.decode.Op.the-variants.{End, Advance, Set, Remember, Recall}
-use Rattle.program.specs.Operation.{Decoding, decode}
+use Rattle.program.specs.Operation.{decode}
 use Rattle.program.specs.Rule.{follow}
 
 -- the most states that are remembered

@@ -1,4 +1,5 @@
-// Operations read from memory: what a first byte says, and the numbers that follow it.
+// Operations read from memory: what a first byte says, and the numbers that follow it. These are for the forms of `run`, which
+// have tested what is lent.
 ghost use mathlib.Core.Path.{_≡_};
 ghost use Prim.Native.Nat.{_≤_, _<_};
 ghost use Rattle.mem.specs.Memory.{lent};

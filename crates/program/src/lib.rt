@@ -35,7 +35,7 @@ pub enum Status {
     Refused(u32),
 }
 
-// A state after an operation; beside a refusal it has no meaning.
+// A state after an operation; beside a refusal nothing is said of it.
 struct Followed {
     status: Status,
     state: State,
@@ -234,7 +234,8 @@ pub fn run_program<'a>(
     }
 }
 
-// A run of the program at an address up to an offset, in what is lent.
+// A run of the program at an address up to an offset, in what is lent. For an unknown architecture the entry state is that of
+// the numbers that stand for it.
 pub fn run<'a>(
     section: &'a [u8],
     section_base: usize,

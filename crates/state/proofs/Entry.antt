@@ -1,7 +1,5 @@
 -- Laws of the entry state, over the numbers of any architecture as the code holds them. Assumes nothing.
 use mathlib.Core.Path.{_≡_, sym, _∙_, ap}
-use Prim.Native.Nat.{ℕ}
-use lib.Dec.{eqb}
 use borrow.Author.Tests.{eq-eqb, ne-eqb}
 use Rattle.arch.specs.Arch.{Arch}
 use Rattle.arch.specs.Answers.{inCode}

@@ -1,13 +1,15 @@
 -- Laws of the public `entry`, `restore` and `slot`. Assumes nothing.
-use mathlib.Core.Path.{_≡_, ap}
+use mathlib.Core.Path.{_≡_}
 use mathlib.Core.Bool.{true, false}
+use mathlib.Core.Option.{some, none}
 use Prim.Native.Nat.{ℕ, _≤_, _<_}
 use lib.ListN.{getD}
 use borrow.Author.Tests.{lt-ltb, le-ltb}
+use Rattle.failure.specs.Outcome.{Outcome, Refused, Answer}
+use Rattle.failure.specs.Failure.{BadOpening}
 use Rattle.arch.specs.Arch.{numbers, isKnown}
 use Rattle.state.specs.declared.State.{State}
 use Rattle.state.specs.declared.Found.the-variants.{At, Nowhere}
-use Rattle.state.specs.declared.Slot.the-variants.{In, Unsaved, BadOpening}
 use Rattle.state.specs.declared.Status.the-variants as status
 use Rattle.state.specs.State as State
 use Rattle.state.specs.State.{maxSaved, overfull}
@@ -45,14 +47,14 @@ module _ (arch : ℕ) (st : State) (reg : ℕ) where
 -- the slot of a register
 
 module _ (st : State) (reg : ℕ) where
-  pub slot-overfull : maxSaved < st .count → BadOpening ≡ slot st reg
+  pub slot-overfull : maxSaved < st .count → Refused BadOpening ≡ slot st reg
   unfolding slot overfull
   slot-overfull h = simp (lt-ltb maxSaved (st .count) h)
 
-  pub slot-at : (i : ℕ) → st .count ≤ maxSaved → placeOf st reg ≡ At i → In (getD (st .slots) i 0) ≡ slot st reg
+  pub slot-at : (i : ℕ) → st .count ≤ maxSaved → placeOf st reg ≡ At i → Answer (some (getD (st .slots) i 0)) ≡ slot st reg
   unfolding slot overfull
   slot-at i h e = simp (le-ltb maxSaved (st .count) h, e)
 
-  pub slot-none : st .count ≤ maxSaved → placeOf st reg ≡ Nowhere → Unsaved ≡ slot st reg
+  pub slot-none : st .count ≤ maxSaved → placeOf st reg ≡ Nowhere → Answer none ≡ slot st reg
   unfolding slot overfull
   slot-none h e = simp (le-ltb maxSaved (st .count) h, e)

@@ -1,14 +1,12 @@
 -- Laws of `save`: what each of its tests comes to. Assumes nothing.
 use mathlib.Core.Path.{_≡_, sym, _∙_, ap}
 use Prim.Native.Nat.{ℕ, _≤_, _<_}
-use lib.Dec.{eqb}
 use borrow.Author.Tests.{lt-ltb, le-ltb, eq-eqb, ne-eqb}
 use Rattle.state.specs.declared.State.{State}
-use Rattle.state.specs.declared.Found.{Found}
 use Rattle.state.specs.declared.Found.the-variants.{At, Nowhere}
 use Rattle.state.specs.State.{maxSaved, overfull}
 use Rattle.state.specs.Pairs.{placeOf}
-use Rattle.state.specs.Save.{Change, Done, OutOfRange, Full, BadOpening, withSlot, withPair, saveAt, save}
+use Rattle.state.specs.Save.{Done, OutOfRange, Full, BadOpening, withSlot, withPair, saveAt, save}
 
 module _ (st : State) (reg slot : ℕ) where
   pub save-overfull : maxSaved < st .count → BadOpening ≡ save st reg slot

@@ -1,14 +1,14 @@
 -- What the public functions come to: 28 for an architecture other than 1 and 2, and then for a state that counts more than 32 pairs.
+use mathlib.Core.Option.{Option, some, none}
 use Prim.Native.Nat.{ℕ}
 use lib.ListN.{getD}
 use Rattle.failure.specs.Choice.{if_then_else_}
-use Rattle.arch.specs.Arch.{Arch, numbers, isKnown}
+use Rattle.failure.specs.Outcome.{Outcome, Refused, Answer}
+use Rattle.failure.specs.Failure as Failure
+use Rattle.arch.specs.Arch.{numbers, isKnown}
 use Rattle.state.specs.declared.State.{State}
 use Rattle.state.specs.declared.Found.{Found}
 use Rattle.state.specs.declared.Found.the-variants.{At, Nowhere}
-use Rattle.state.specs.declared.Slot.{Slot}
-use Rattle.state.specs.declared.Slot.the-variants.{In, Unsaved}
-use Rattle.state.specs.declared.Slot.the-variants as found
 use Rattle.state.specs.State as State
 use Rattle.state.specs.Pairs.{placeOf}
 use Rattle.state.specs.Save.{Change, Done, BadOpening}
@@ -23,10 +23,10 @@ unfoldable pub restore : ℕ → State → ℕ → Change
 restore arch st reg = if isKnown arch then Restore.restore (numbers arch) st reg else BadOpening
 
 -- the slot of the pair at a place, if there is one
-abbrev pub slotAt : State → Found → Slot
-slotAt st (At i) = In (getD (st .slots) i 0)
-slotAt st Nowhere = Unsaved
+abbrev pub slotAt : State → Found → Option ℕ
+slotAt st (At i) = some (getD (st .slots) i 0)
+slotAt st Nowhere = none
 
 -- the slot of a register, if it is saved
-unfoldable pub slot : State → ℕ → Slot
-slot st reg = if State.overfull st then found.BadOpening else slotAt st (placeOf st reg)
+unfoldable pub slot : State → ℕ → Outcome (Option ℕ)
+slot st reg = if State.overfull st then Refused Failure.BadOpening else Answer (slotAt st (placeOf st reg))

@@ -1,6 +1,6 @@
 -- Unwind states (document 01, "The state program": "base sp or fp, units, up to 32 pairs (register, slot)").
 -- The pairs are the first `count` numbers of `regs` and `slots`; what stands past the count is part of a state too.
-use mathlib.Core.Bool.{Bool, true, false}
+use mathlib.Core.Bool.{Bool, false}
 use Prim.Native.Nat.{ℕ}
 use lib.Dec.{eqb, ltb}
 use lib.ListN.{set, replicate}

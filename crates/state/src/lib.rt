@@ -9,7 +9,7 @@ ghost use Rattle.state.specs.Pairs as Pairs;
 ghost use Rattle.state.specs.Save as Save;
 ghost use Rattle.state.specs.Restore as Restore;
 ghost use Rattle.state.specs.Public as Public;
-ghost use Rattle.state.specs.Answers.{next};
+ghost use Rattle.state.specs.Answers.{next, slotted};
 use arch::is_known;
 use arch::numbers;
 
@@ -126,7 +126,7 @@ impl State {
 
     // The slot of a register.
     pub fn slot(self, reg: u16) -> Slot
-        ensures { λ r. ⌜ r ≡ Public.slot self reg ⌝ }
+        ensures { λ r. ⌜ slotted r ≡ Public.slot self reg ⌝ }
     {
         if MAX_SAVED < self.count {
             return Slot::BadOpening;

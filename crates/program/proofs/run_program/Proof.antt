@@ -1,7 +1,7 @@
 -- `program::run_program` meets its contract. The invariant: the run is what is left of it from where the loop stands.
 -- The measure is the bytes below the limit. Assumes nothing.
 use mathlib.Core.Path.{_≡_, refl, sym, _∙_, ap}
-use Prim.Native.Nat.{ℕ, _-_, _*_, _≤_, _<_}
+use Prim.Native.Nat.{_-_, _*_, _≤_, _<_}
 use native.Mathlib.Omega.{arith}
 use borrow.Author.Needs.{needs}
 use Rattle.failure.specs.Outcome.{Answer}

@@ -1,7 +1,5 @@
 -- `state::at_entry` meets its contract: an architecture has its return address in a slot at entry, or has not. Assumes nothing.
-use mathlib.Core.Path.{_≡_, ap}
 use borrow.Author.Needs.{needs}
-use Rattle.arch.specs.declared.Arch2.{Arch2}
 use Rattle.state.proofs.Entry.{entry-saved, entry-bare}
 use Rattle.state.proofs.at_entry.Statement.{statement}
 use Rattle.state.proofs.at_entry.Tie as tie

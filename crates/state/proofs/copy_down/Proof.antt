@@ -1,8 +1,7 @@
 -- `state::copy_down` meets its contract. The invariant: what is left to copy from k on gives the whole copy. Assumes nothing.
-use mathlib.Core.Path.{_≡_, refl, sym, _∙_, ap}
-use Prim.Native.Nat.{ℕ, _+_, _-_, _≤_}
+use mathlib.Core.Path.{_≡_, refl, sym, _∙_}
+use Prim.Native.Nat.{_-_, _≤_}
 use native.Mathlib.Omega.{arith}
-use lib.ListN.{getD, set}
 use Rattle.state.specs.Restore.{copyDown}
 use Rattle.state.proofs.Restore.{copy-one, copy-over}
 use Rattle.state.proofs.copy_down.Statement.{statement}

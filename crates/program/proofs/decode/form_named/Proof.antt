@@ -52,9 +52,18 @@ returns-11 c = sym (ap formOf (c .match .keys11))
 returns-12 : tie.Need-returns-12
 returns-12 c =
     let differs = c .match .rest in
-    form-unknown _
-    (past 0xca _ (past 0xc9 _ (past 0xc8 _ (past 0xc7 _ (past 0xc6 _ (past 0xc5 _ (past 0xc4 _ (past 0xc3 _ (past 0xc2 _ (past 0xc1 _ (past 0xc0 _ (c .before .pre .0) (differs .0 .0 .0 .0 .0 .0 .0 .0 .0 .0 .1)) (differs .0 .0 .0 .0 .0 .0 .0 .0 .0 .1)) (differs .0 .0 .0 .0 .0 .0 .0 .0 .1)) (differs .0 .0 .0 .0 .0 .0 .0 .1)) (differs .0 .0 .0 .0 .0 .0 .1)) (differs .0 .0 .0 .0 .0 .1)) (differs .0 .0 .0 .0 .1)) (differs .0 .0 .0 .1)) (differs .0 .0 .1)) (differs .0 .1)) (differs .1))
-    (c .before .pre .1)
+    let after-c0 = past 0xc0 _ (c .before .pre .0) (differs .0 .0 .0 .0 .0 .0 .0 .0 .0 .0 .1) in
+    let after-c1 = past 0xc1 _ after-c0 (differs .0 .0 .0 .0 .0 .0 .0 .0 .0 .1) in
+    let after-c2 = past 0xc2 _ after-c1 (differs .0 .0 .0 .0 .0 .0 .0 .0 .1) in
+    let after-c3 = past 0xc3 _ after-c2 (differs .0 .0 .0 .0 .0 .0 .0 .1) in
+    let after-c4 = past 0xc4 _ after-c3 (differs .0 .0 .0 .0 .0 .0 .1) in
+    let after-c5 = past 0xc5 _ after-c4 (differs .0 .0 .0 .0 .0 .1) in
+    let after-c6 = past 0xc6 _ after-c5 (differs .0 .0 .0 .0 .1) in
+    let after-c7 = past 0xc7 _ after-c6 (differs .0 .0 .0 .1) in
+    let after-c8 = past 0xc8 _ after-c7 (differs .0 .0 .1) in
+    let after-c9 = past 0xc9 _ after-c8 (differs .0 .1) in
+    let after-ca = past 0xca _ after-c9 (differs .1) in
+    form-unknown _ after-ca (c .before .pre .1)
 
 pub form-named-spec : {M : Type 1} → statement M
 form-named-spec =

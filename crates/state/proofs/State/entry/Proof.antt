@@ -1,5 +1,5 @@
 -- `state::State::entry` meets its contract. Assumes nothing.
-use mathlib.Core.Path.{sym, _∙_, ap}
+use mathlib.Core.Path.{sym, _∙_}
 use borrow.Author.Needs.{needs}
 use borrow.Author.Tests.{not-true, not-false}
 use Rattle.state.proofs.Public.{entry-known, entry-unknown}

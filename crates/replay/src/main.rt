@@ -11,6 +11,11 @@ use leb::Number;
 use libc::STDOUT_FILENO;
 use lookup::Lookup;
 use lookup::Record;
+use personality::Code;
+use personality::Phase;
+use rows::Row;
+use rows::handler::handler;
+use rows::handler2::handler2;
 use state::State;
 
 // The value of a lower-case hexadecimal digit; 0 for any other byte.
@@ -441,6 +446,111 @@ fn check_step(words: &[usize; 1024], arch: u8) -> bool {
     same_next(got, word(words, end), file(words, after(end, 1), arch))
 }
 
+// A row is as recorded: STATUS PAD ACTION; ff is none.
+fn same_row(words: &[usize; 1024], at: usize, got: Row) -> bool {
+    let status = word(words, at);
+    match got {
+        Row::Is(pad, action) => {
+            status == 0 && pad == word(words, after(at, 1)) && action == word(words, after(at, 2))
+        }
+        Row::None => status == 255,
+        Row::Refused(n) => status == n as usize,
+    }
+}
+
+// handler: what is lent, TABLE RET and a row.
+fn check_handler(words: &[usize; 1024]) -> bool {
+    let m = lent_by(words);
+    let section = m.section;
+    let n = m.section_len;
+    let stack = m.stack;
+    let k = m.stack_len;
+    let rest = m.rest;
+    let got = handler(
+        &section[..n],
+        m.section_base,
+        &stack[..k],
+        m.stack_base,
+        word(words, rest),
+        (word(words, after(rest, 1)) % 0x1_0000_0000) as u32,
+    );
+    same_row(words, after(rest, 2), got)
+}
+
+// handler2: what is lent, TABLE LIMIT RET and a row.
+fn check_handler2(words: &[usize; 1024]) -> bool {
+    let m = lent_by(words);
+    let section = m.section;
+    let n = m.section_len;
+    let stack = m.stack;
+    let k = m.stack_len;
+    let rest = m.rest;
+    let got = handler2(
+        &section[..n],
+        m.section_base,
+        &stack[..k],
+        m.stack_base,
+        word(words, rest),
+        word(words, after(rest, 1)),
+        (word(words, after(rest, 2)) % 0x1_0000_0000) as u32,
+    );
+    same_row(words, after(rest, 3), got)
+}
+
+// A phase by its number, 1 search or 2 cleanup.
+fn phase_of(n: usize) -> Phase {
+    if n == 1 {
+        return Phase::Search;
+    }
+    Phase::Cleanup
+}
+
+// The record that a personality goes by: START HANDLERS VERSION FRAME PROGRAM LIMIT.
+fn record_at(words: &[usize; 1024], at: usize) -> Record {
+    Record {
+        start: word(words, at),
+        end: 0,
+        frame: (word(words, after(at, 3)) % 0x1_0000_0000) as u32,
+        handlers: word(words, after(at, 1)),
+        program: word(words, after(at, 4)),
+        limit: word(words, after(at, 5)),
+        version: (word(words, after(at, 2)) % 256) as u8,
+    }
+}
+
+// personality: what is lent, PHASE EXC INTERRUPTED, a record, FILE STATUS CODE FILE'.
+fn check_personality(words: &[usize; 1024], arch: u8) -> bool {
+    let m = lent_by(words);
+    let section = m.section;
+    let n = m.section_len;
+    let stack = m.stack;
+    let k = m.stack_len;
+    let rest = m.rest;
+    let at = after(rest, 9);
+    let got = personality::personality(
+        &section[..n],
+        m.section_base,
+        &stack[..k],
+        m.stack_base,
+        arch,
+        phase_of(word(words, rest)),
+        word(words, after(rest, 1)),
+        word(words, after(rest, 2)) == 1,
+        record_at(words, after(rest, 3)),
+        file(words, at, arch),
+    );
+    let end = after(at, file_size(arch));
+    let regs = got.regs;
+    if !same_file(regs, file(words, after(end, 2), arch)) {
+        return false;
+    }
+    let code = got.code;
+    match code {
+        Code::Reason(c) => word(words, end) == 0 && word(words, after(end, 1)) == c as usize,
+        Code::Refused(c) => word(words, end) == c as usize,
+    }
+}
+
 // Our answer to a case is the recorded one.
 fn check_case(words: &[usize; 1024]) -> bool {
     let op = word(words, 0);
@@ -459,6 +569,9 @@ fn check_case(words: &[usize; 1024]) -> bool {
         11 => check_restore(words, arch),
         12 => check_apply(words, arch),
         13 => check_step(words, arch),
+        14 => check_handler(words),
+        15 => check_handler2(words),
+        16 => check_personality(words, arch),
         _ => false,
     }
 }
@@ -595,4 +708,5 @@ fn main() {
     replay(b"lookup");
     replay(b"program");
     replay(b"frame");
+    replay(b"rows");
 }

@@ -1,4 +1,6 @@
-//! Register files for requests that go from a frame to its caller.
+//! Register files for requests that take a frame's registers.
+
+use crate::random::Random;
 
 /// The registers of one architecture: its numbers in a file, and what they hold.
 #[derive(Clone)]
@@ -17,6 +19,13 @@ impl File {
         File { numbers: (1..=count).collect(), sp, fp, ra }
     }
 
+    /// Numbers of any width.
+    pub fn random(arch: u64, random: &mut Random) -> File {
+        let mut file = File::new(arch);
+        file.numbers.fill_with(|| random.any_width());
+        file
+    }
+
     pub fn sp(mut self, value: u64) -> File {
         self.numbers[self.sp] = value;
         self
@@ -29,6 +38,13 @@ impl File {
 
     pub fn ra(mut self, value: u64) -> File {
         self.numbers[self.ra] = value;
+        self
+    }
+
+    /// pc is the last number on both.
+    pub fn pc(mut self, value: u64) -> File {
+        let last = self.numbers.len() - 1;
+        self.numbers[last] = value;
         self
     }
 

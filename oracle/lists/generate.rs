@@ -2,8 +2,11 @@
 
 mod apply;
 mod file;
+mod handler;
+mod handler2;
 mod lookup;
 mod memory;
+mod personality;
 mod program;
 mod random;
 mod registers;
@@ -25,7 +28,7 @@ fn main() {
         _ => None,
     };
     let Some(list) = list else {
-        eprintln!("usage: generate MODULE ARCH, where MODULE is foundation, lookup, frame or program and ARCH 1 or 2");
+        eprintln!("usage: generate MODULE ARCH, where MODULE is foundation, lookup, frame, program or rows and ARCH 1 or 2");
         exit(2);
     };
     let mut seen = HashSet::new();
@@ -42,6 +45,7 @@ fn requests(module: &str, arch: u64) -> Option<Vec<String>> {
         "lookup" => Some(lookup::requests(arch, random)),
         "frame" => Some(frame(arch, random)),
         "program" => Some(program::requests(random)),
+        "rows" => Some(rows(arch, random)),
         _ => None,
     }
 }
@@ -55,5 +59,12 @@ fn foundation(arch: u64, random: &mut Random) -> Vec<String> {
 fn frame(arch: u64, random: &mut Random) -> Vec<String> {
     let mut list = apply::requests(arch, random);
     list.extend(step::requests(arch, random));
+    list
+}
+
+fn rows(arch: u64, random: &mut Random) -> Vec<String> {
+    let mut list = handler::requests(random);
+    list.extend(handler2::requests(random));
+    list.extend(personality::requests(arch, random));
     list
 }

@@ -12,7 +12,7 @@ use tokens::{bytes, list, number};
 /// The status that stands for `outside`: our number for an address in neither range.
 const OUTSIDE: u64 = 27;
 
-/// The status that stands for `none`: no record, and no refusal.
+/// The status that stands for `none`: no record or no row, and no refusal.
 const NONE: u64 = 0xff;
 
 /// A request and its answer, cut into tokens.
@@ -79,6 +79,9 @@ fn layout(name: &str, case: &Case) -> Option<(u64, Vec<u64>)> {
         "restore" => (11, changed(case, 1)?),
         "apply" => (12, apply(case)?),
         "step" => (13, step(case)?),
+        "handler" => (14, row(case, 2)?),
+        "handler2" => (15, row(case, 3)?),
+        "personality" => (16, personality(case)?),
         _ => return None,
     })
 }
@@ -232,6 +235,50 @@ fn lookup(case: &Case) -> Packed {
         }
         ["none"] => out.extend([NONE, 0, 0, 0, 0, 0, 0, 0]),
         _ if refused(case) => out.extend([status(case)?, 0, 0, 0, 0, 0, 0, 0]),
+        _ => return None,
+    }
+    Some(out)
+}
+
+/// SBASE SLEN bytes KBASE KLEN bytes, so many numbers, STATUS PAD ACTION
+fn row(case: &Case, numbers: usize) -> Packed {
+    let mut out = memory(case)?;
+    if case.args.len() != numbers {
+        return None;
+    }
+    for token in &case.args {
+        out.push(number(token)?);
+    }
+    match case.answer[..] {
+        ["row", pad, action] => out.extend([0, number(pad)?, number(action)?]),
+        ["none"] => out.extend([NONE, 0, 0]),
+        _ if refused(case) => out.extend([status(case)?, 0, 0]),
+        _ => return None,
+    }
+    Some(out)
+}
+
+/// SBASE SLEN bytes KBASE KLEN bytes, nine numbers, FILE STATUS CODE FILE', where a refusal has code 0 and leaves the file as it was.
+fn personality(case: &Case) -> Packed {
+    let mut out = memory(case)?;
+    let (file, numbers) = case.args.split_last()?;
+    if numbers.len() != 9 {
+        return None;
+    }
+    for token in numbers {
+        out.push(number(token)?);
+    }
+    let file = list(file)?;
+    out.extend(&file);
+    match case.answer[..] {
+        ["reason", code, after] => {
+            out.extend([0, number(code)?]);
+            out.extend(list(after)?);
+        }
+        _ if refused(case) => {
+            out.extend([status(case)?, 0]);
+            out.extend(file);
+        }
         _ => return None,
     }
     Some(out)

@@ -58,7 +58,7 @@ fn plain(program: &[u8], off: u64) -> String {
     run((SECTION, program), NONE, SECTION, SECTION + program.len() as u64, off)
 }
 
-fn uleb(mut n: u64) -> Vec<u8> {
+pub fn uleb(mut n: u64) -> Vec<u8> {
     let mut bytes = Vec::new();
     while n >= 0x80 {
         bytes.push(n as u8 | 0x80);

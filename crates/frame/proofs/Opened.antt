@@ -10,6 +10,7 @@ use Rattle.mem.specs.Memory.{Lent}
 use Rattle.mem.specs.Opening.{opens}
 use Rattle.arch.specs.Arch.{Arch, numbers, isKnown, known}
 use Rattle.state.specs.declared.State.{State}
+use Rattle.state.specs.State.{overfull}
 use Rattle.frame.specs.Layout.{layout}
 use Rattle.frame.specs.Apply as Apply
 use Rattle.frame.specs.Step as Step
@@ -34,12 +35,12 @@ module _ {A : Type 0} (f : Arch → Outcome A) (l : Lent) (n : ℕ) where
 module _ (l : Lent) (n : ℕ) (o : opens l ≡ true) (k : isKnown n ≡ true) (file : List ℕ) where
   -- a state that counts too many pairs
   pub apply-counts : (st : State) → 32 < st .count → Refused BadOpening ≡ apply l n st file
-  unfolding apply
+  unfolding apply overfull
   apply-counts st h = opened-goes-on _ l n (Refused BadOpening) o k (rw (lt-ltb 32 (st .count) h))
 
   -- any other
   pub apply-passes : (st : State) → st .count ≤ 32 → Apply.apply (numbers n) (l .regions) (layout st) file ≡ apply l n st file
-  unfolding apply
+  unfolding apply overfull
   apply-passes st h =
       opened-goes-on _ l n (Apply.apply (numbers n) (l .regions) (layout st) file) o k (rw (le-ltb 32 (st .count) h))
 

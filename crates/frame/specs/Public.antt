@@ -3,7 +3,6 @@
 use mathlib.Core.Bool.{Bool}
 use mathlib.Core.List.{List}
 use Prim.Native.Nat.{ℕ}
-use lib.Dec.{ltb}
 use Rattle.failure.specs.Choice.{if_then_else_}
 use Rattle.failure.specs.Outcome.{Outcome, Refused, _>>=_}
 use Rattle.failure.specs.Failure.{BadOpening}
@@ -11,13 +10,10 @@ use Rattle.mem.specs.Memory.{Lent}
 use Rattle.mem.specs.Opening.{opens}
 use Rattle.arch.specs.Arch.{Arch, known}
 use Rattle.state.specs.declared.State.{State}
+use Rattle.state.specs.State.{overfull}
 use Rattle.frame.specs.Layout.{layout}
 use Rattle.frame.specs.Apply as Apply
 use Rattle.frame.specs.Step as Step
-
--- the most pairs that a state holds
-abbrev pub maxSaved : ℕ
-maxSaved = 32
 
 -- the numbers of the architecture, if what is lent is accepted
 unfoldable pub opened : Lent → ℕ → Outcome Arch
@@ -27,7 +23,7 @@ opened l arch = if opens l then known arch else Refused BadOpening
 unfoldable pub apply : Lent → ℕ → State → List ℕ → Outcome (List ℕ)
 apply l arch st file = do
   a ← opened l arch
-  if ltb maxSaved (st .count) then Refused BadOpening else Apply.apply a (l .regions) (layout st) file
+  if overfull st then Refused BadOpening else Apply.apply a (l .regions) (layout st) file
 
 -- the caller's registers from a version 1 frame word; first means interrupted
 unfoldable pub step : Lent → ℕ → ℕ → Bool → List ℕ → Outcome (List ℕ)

@@ -3,34 +3,17 @@ use mathlib.Core.Path.{_≡_, refl}
 use mathlib.Core.Bool.{Bool, true, false, not}
 use mathlib.Core.List.{List}
 use mathlib.Core.Option.{Option, some}
-use Prim.Native.Nat.{ℕ, _≤_, _<_}
+use Prim.Native.Nat.{ℕ}
 use native.Mathlib.Omega.{arith}
-use lib.Dec.{eqb}
-use borrow.Author.Tests.{eq-eqb, ne-eqb, eqb-false}
 use Rattle.failure.specs.Choice.{if_then_else_}
 use Rattle.failure.specs.Outcome.{Outcome, Refused, Answer}
 use Rattle.failure.specs.Failure.{BadOpening}
 use Rattle.mem.specs.Memory.{lent}
 use Rattle.mem.specs.Opening.{opens}
+use Rattle.arch.specs.Arch.{isKnown}
 use Rattle.lookup.specs.Steps.{Inside}
-use Rattle.lookup.specs.Lookup.{Found, lookup, known, lookupArch}
+use Rattle.lookup.specs.Lookup.{Found, lookup, lookupArch}
 use Rattle.lookup.proofs.Places.{lookup-in}
-
--- architectures 1 and 2
-pub known-both : (arch : ℕ) → 1 ≤ arch → arch ≤ 2 → known arch ≡ true
-known-both arch l h = go (eqb arch 1) refl
-  where
-    go : (t : Bool) → eqb arch 1 ≡ t → known arch ≡ true
-    go true e = rw e
-    go false e =
-        let other : arch ≡ 1 → ⊥ = eqb-false arch 1 e in
-        rw e (eq-eqb arch 2 (omega arith))
-
-pub known-low : (arch : ℕ) → arch < 1 → known arch ≡ false
-known-low arch h = simp (ne-eqb arch 1 (λ e. omega arith), ne-eqb arch 2 (λ e. omega arith))
-
-pub known-high : (arch : ℕ) → 2 < arch → known arch ≡ false
-known-high arch h = simp (ne-eqb arch 1 (λ e. omega arith), ne-eqb arch 2 (λ e. omega arith))
 
 -- 28 comes first
 module _ (section : List ℕ) (sectionBase : ℕ) (stack : List ℕ) (stackBase pc arch : ℕ) where
@@ -39,12 +22,12 @@ module _ (section : List ℕ) (sectionBase : ℕ) (stack : List ℕ) (stackBase 
   unfolding lookupArch
   arch-closed o = simp o
 
-  pub arch-unknown : opens (lent section sectionBase stack stackBase) ≡ true → known arch ≡ false →
+  pub arch-unknown : opens (lent section sectionBase stack stackBase) ≡ true → isKnown arch ≡ false →
       Refused BadOpening ≡ lookupArch section sectionBase stack stackBase pc arch
   unfolding lookupArch
   arch-unknown o k = rw (o, k)
 
-  pub arch-open : opens (lent section sectionBase stack stackBase) ≡ true → known arch ≡ true →
+  pub arch-open : opens (lent section sectionBase stack stackBase) ≡ true → isKnown arch ≡ true →
       lookup section sectionBase pc arch ≡ lookupArch section sectionBase stack stackBase pc arch
   unfolding lookupArch
   arch-open o k = rw (o, k)
@@ -52,7 +35,7 @@ module _ (section : List ℕ) (sectionBase : ℕ) (stack : List ℕ) (stackBase 
   -- a chunk that is found lies in the section
   pub arch-in : (f : Found) → lookupArch section sectionBase stack stackBase pc arch ≡ Answer (some f) → Inside section (f .chunk)
   unfolding lookupArch
-  arch-in f e = go (opens (lent section sectionBase stack stackBase)) (known arch) e
+  arch-in f e = go (opens (lent section sectionBase stack stackBase)) (isKnown arch) e
     where
       clash : _≡_ {A = Outcome (Option Found)} (Refused BadOpening) (Answer (some f)) → ⊥
       clash p = let z : _≡_ {A = ℕ} 0 1 = cc in omega arith

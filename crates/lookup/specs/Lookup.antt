@@ -1,5 +1,5 @@
 -- The record of a pc (document 01, "Chunks and records").
-use mathlib.Core.Bool.{Bool, not, _&&_, _||_}
+use mathlib.Core.Bool.{Bool, not, _&&_}
 use mathlib.Core.List.{List}
 use mathlib.Core.Option.{Option, none, some}
 use Prim.Native.Nat.{ℕ, _-_}
@@ -11,6 +11,7 @@ use Rattle.failure.specs.Failure.{BadEkoHeader, BadEkoRecord, EkoUnsorted, BadO
 use Rattle.mem.specs.Memory.{lent}
 use Rattle.mem.specs.Opening.{opens}
 use Rattle.mem.specs.Part.{Part}
+use Rattle.arch.specs.Arch.{isKnown}
 use Rattle.lookup.specs.Record.{recordOf, badRecord}
 use Rattle.lookup.specs.Search.{search}
 use Rattle.lookup.specs.Tables.{Chunks, End, Fault, _▸_, chunks}
@@ -48,15 +49,11 @@ find bytes base pc (c ▸ cs) = searchIn bytes base pc c >>= answerOr c (find by
 unfoldable pub lookup : List ℕ → ℕ → ℕ → ℕ → Outcome (Option Found)
 lookup bytes base pc arch = find bytes base pc (chunks bytes arch)
 
--- architecture 1 or 2
-abbrev pub known : ℕ → Bool
-known arch = eqb arch 1 || eqb arch 2
-
 -- the record of pc in the section; 28 where the opening is broken or the architecture is not 1 or 2
 unfoldable pub lookupArch : List ℕ → ℕ → List ℕ → ℕ → ℕ → ℕ → Outcome (Option Found)
 lookupArch section sectionBase stack stackBase pc arch =
     if not (opens (lent section sectionBase stack stackBase)) then Refused BadOpening
-    else if not (known arch) then Refused BadOpening
+    else if not (isKnown arch) then Refused BadOpening
     else lookup section sectionBase pc arch
 
 -- document 01's number and values for each case of a Lookup

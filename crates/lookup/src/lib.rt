@@ -469,10 +469,7 @@ pub fn lookup_arch(
     if !opening::opens(section, section_base, stack, stack_base) {
         return Lookup::BadOpening;
     }
-    if arch < 1 {
-        return Lookup::BadOpening;
-    }
-    if 2 < arch {
+    if !arch::is_known(arch) {
         return Lookup::BadOpening;
     }
     lookup_part(section, section_base, pc, arch)

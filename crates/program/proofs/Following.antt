@@ -1,25 +1,14 @@
--- Laws of `frameRegs`, and of a change as the code hands it back. Assumes nothing.
-use mathlib.Core.Path.{_≡_, refl, sym, _∙_, ap}
+-- Laws of `frameRegs`. Assumes nothing.
+use mathlib.Core.Path.{_≡_, sym, _∙_, ap}
 use Prim.Native.Nat.{ℕ}
 use Rattle.failure.specs.Outcome.{Outcome, Refused, Answer}
 use Rattle.arch.specs.Arch.{Arch}
 use Rattle.arch.specs.Answers.{inCode}
 use Rattle.arch.specs.declared.Arch2.{Arch2}
 use Rattle.state.specs.declared.State.{State}
-use Rattle.state.specs.declared.Next.{Next}
-use Rattle.state.specs.Save.{Change, Done, OutOfRange, Full, BadOpening, save}
-use Rattle.state.specs.Answers.{changed, next, changeOf}
+use Rattle.state.specs.Save.{save}
+use Rattle.state.specs.Answers.{changed}
 use Rattle.program.specs.Rule.{frameRegs}
-
--- what the code hands back comes to what the change comes to
-pub change-told : (st : State) (x : Change) (n : Next) → n ≡ next st x → changed (changeOf n) ≡ changed x
-change-told st x n e = ap (λ (m : Next). changed (changeOf m)) e ∙ same x
-  where
-    same : (y : Change) → changed (changeOf (next st y)) ≡ changed y
-    same (Done s) = refl
-    same OutOfRange = refl
-    same Full = refl
-    same BadOpening = refl
 
 -- the two saves, over the numbers of an architecture as the code holds them
 module _ (a : Arch) (r : Arch2) (e : r ≡ inCode a) (st : State) where

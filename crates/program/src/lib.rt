@@ -5,7 +5,7 @@ ghost use mathlib.Core.Path.{_≡_};
 ghost use Rattle.mem.specs.Memory.{lent};
 ghost use Rattle.arch.specs.Arch.{numbers};
 ghost use Rattle.state.specs.State.{entry};
-ghost use Rattle.state.specs.Answers.{changed, changeOf};
+ghost use Rattle.state.specs.Answers.{told};
 ghost use Rattle.program.specs.Rule as Rules;
 ghost use Rattle.program.specs.Run as Run;
 ghost use Rattle.program.specs.Public as Public;
@@ -51,7 +51,7 @@ pub struct Ended {
 
 // A change of a state as document 01 answers it.
 fn folded(n: Next) -> Followed
-    ensures { λ r. ⌜ followed r ≡ changed (changeOf n) ⌝ }
+    ensures { λ r. ⌜ followed r ≡ told n ⌝ }
 {
     let st = n.state;
     let status = n.status;

@@ -5,7 +5,7 @@ use mathlib.Core.Option.{some, none}
 use Prim.Native.Nat.{ℕ, _≤_, _<_}
 use lib.ListN.{getD}
 use borrow.Author.Tests.{lt-ltb, le-ltb}
-use Rattle.failure.specs.Outcome.{Outcome, Refused, Answer}
+use Rattle.failure.specs.Outcome.{Refused, Answer}
 use Rattle.failure.specs.Failure.{BadOpening}
 use Rattle.arch.specs.Arch.{numbers, isKnown}
 use Rattle.state.specs.declared.State.{State}

@@ -19,7 +19,7 @@ use Rattle.state.specs.declared.Status.{Status}
 use Rattle.state.specs.declared.Status.the-variants as status
 use Rattle.state.specs.declared.Next.{Next}
 use Rattle.state.specs.Save.{Change, Done, OutOfRange, Full, BadOpening, save}
-use Rattle.state.specs.Answers.{next}
+use Rattle.state.specs.Answers.{changed, next, told}
 use Rattle.state.specs.Restore.{copyDown, without, returnSaved, restore}
 
 one : (xs : List ℕ) (n k i : ℕ) → n ≡ suc k → copyDown n i xs ≡ copyDown k (i + 1) (set xs i (getD xs (i + 1) 0))
@@ -84,6 +84,16 @@ module _ (a : Arch) (r : Arch2) (same : r ≡ inCode a) (st : State) (reg : ℕ)
         simp
         (le-ltb maxSaved (st .count) fits, eq-eqb reg (a .ra) ra, ne-eqb (a .entrySlot) 0 (λ p. z (slot ∙ p)))
         (cc)
+
+-- a change as the code hands it back is told by document 01's number and value for the change
+pub next-told : (st : State) (x : Change) (r : Next) → r ≡ next st x → told r ≡ changed x
+next-told st x r e = ap told e ∙ same x
+  where
+    same : (y : Change) → told (next st y) ≡ changed y
+    same (Done s) = refl
+    same OutOfRange = refl
+    same Full = refl
+    same BadOpening = refl
 
 -- a change as the code hands it back beside one state, and beside another: the answer is the same
 module _ (st w : State) (r : Next) where

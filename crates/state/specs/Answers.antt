@@ -26,15 +26,16 @@ next st OutOfRange = record { status = status.OutOfRange; state = st }
 next st Full = record { status = status.Full; state = st }
 next st Save.BadOpening = record { status = status.BadOpening; state = st }
 
--- and back
+-- the change that a status and the state beside it stand for
 abbrev pub changeBy : Status → State → Change
 changeBy status.Done st = Done st
 changeBy status.OutOfRange st = OutOfRange
 changeBy status.Full st = Full
 changeBy status.BadOpening st = Save.BadOpening
 
-abbrev pub changeOf : Next → Change
-changeOf n = changeBy (n .status) (n .state)
+-- and so what the code hands back
+abbrev pub told : Next → Outcome State
+told n = changed (changeBy (n .status) (n .state))
 
 -- a register's slot, none if it is not saved
 abbrev pub slotted : Slot → Outcome (Option ℕ)

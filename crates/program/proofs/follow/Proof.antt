@@ -5,9 +5,9 @@ use Rattle.failure.specs.Outcome.{Answer}
 use Rattle.arch.specs.Arch.{numbers}
 use Rattle.state.specs.Save.{save}
 use Rattle.state.specs.Restore.{restore}
+use Rattle.state.proofs.Restore.{next-told}
 use Rattle.program.specs.declared.decode.Rule.{Rule}
 use Rattle.program.specs.Rule.{frameRegs, follow}
-use Rattle.program.proofs.Following.{change-told}
 use Rattle.program.proofs.follow.Statement.{statement}
 use Rattle.program.proofs.follow.Tie as tie
 
@@ -87,7 +87,7 @@ returns-2 : tie.Need-returns-2
 unfolding follow
 returns-2 c =
     let at = c .before .before .before .before .before .args in
-    c .folded .ensures ∙ change-told _ (save _ _ _) _ (c .before .save .ensures) ∙ sym (ap (λ (r : Rule). follow (numbers (at .arch)) r (at .st)) (c .before .before .before .rule2 .given .1))
+    c .folded .ensures ∙ next-told _ (save _ _ _) _ (c .before .save .ensures) ∙ sym (ap (λ (r : Rule). follow (numbers (at .arch)) r (at .st)) (c .before .before .before .rule2 .given .1))
 
 returns-3 : tie.Need-returns-3
 unfolding follow
@@ -105,7 +105,7 @@ returns-5 : tie.Need-returns-5
 unfolding follow
 returns-5 c =
     let at = c .before .before .before .before .before .args in
-    c .folded2 .ensures ∙ change-told _ (restore _ _ _) _ (c .before .restore-by .ensures) ∙ sym (ap (λ (r : Rule). follow (numbers (at .arch)) r (at .st)) (c .before .before .before .rule5 .given .1))
+    c .folded2 .ensures ∙ next-told _ (restore _ _ _) _ (c .before .restore-by .ensures) ∙ sym (ap (λ (r : Rule). follow (numbers (at .arch)) r (at .st)) (c .before .before .before .rule5 .given .1))
 
 returns-6 : tie.Need-returns-6
 unfolding follow

@@ -2,9 +2,10 @@
 use mathlib.Core.Path.{sym, _∙_, ap}
 use borrow.Author.Needs.{needs}
 use Rattle.state.specs.Save.{save}
+use Rattle.state.proofs.Restore.{next-told}
 use Rattle.program.specs.declared.Status.{Status}
 use Rattle.program.specs.Answers.{followedBy}
-use Rattle.program.proofs.Following.{change-told, frame-on, frame-refused}
+use Rattle.program.proofs.Following.{frame-on, frame-refused}
 use Rattle.program.proofs.frame_regs.Statement.{statement}
 use Rattle.program.proofs.frame_regs.Tie as tie
 
@@ -41,15 +42,15 @@ returns c =
     let at = told .before .before .before in
     frame-on _ _ (at .before .before .before .numbers .ensures) _ (at .folded .result .state) _
     (sym (ap (λ (s : Status). followedBy s (at .folded .result .state)) (told .enum-told .given .1)) ∙
-    at .folded .ensures ∙ change-told _ (save _ _ 2) _ (at .before .save .ensures))
-    (c .folded2 .ensures ∙ change-told _ (save _ _ 1) _ (c .before .save2 .ensures))
+    at .folded .ensures ∙ next-told _ (save _ _ 2) _ (at .before .save .ensures))
+    (c .folded2 .ensures ∙ next-told _ (save _ _ 1) _ (c .before .save2 .ensures))
 
 returns-2 : tie.Need-returns-2
 returns-2 c =
     let at = c .before .before .before .before in
     frame-refused _ _ (at .before .before .before .numbers .ensures) _ _
     (sym (ap (λ (s : Status). followedBy s (at .folded .result .state)) (c .before .status .given .1)) ∙
-    at .folded .ensures ∙ change-told _ (save _ _ 2) _ (at .before .save .ensures))
+    at .folded .ensures ∙ next-told _ (save _ _ 2) _ (at .before .save .ensures))
 
 pub frame-regs-spec : {M : Type 1} → statement M
 frame-regs-spec =

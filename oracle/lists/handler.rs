@@ -115,6 +115,9 @@ fn actions(list: &mut Vec<String>) {
         }
         list.push(plain(&table(&[(1, 7, 0), (5, 0, action), (9, 8, 1)]), 9));
     }
+    for row in [(5, 9, 0x100), (5, 9, 0x1_0001), (5, 0, 0x102)] {
+        list.push(plain(&table(&[row]), 5));
+    }
 }
 
 /// Counts below and above the four rows that are there. A row past the count is no neighbour.
@@ -128,10 +131,11 @@ fn counts(list: &mut Vec<String>) {
     }
 }
 
-/// Counts near 2^32, where the stack holds some of the three rows in the middle.
+/// Counts near 2^32, where the stack holds some of the three rows in the middle. With the last
+/// count the second middle would be row 0 if its sum were taken modulo 2^32.
 fn far(list: &mut Vec<String>) {
-    for count in [MAX, 0x8000_0000] {
-        let head = counted(count, &FOUR[..1]);
+    for count in [MAX, 0x8000_0000, 0xaaaa_aaab] {
+        let head = counted(count, &FOUR[..2]);
         let left = SECTION + 4 + 12 * (u64::from(count) / 2 - 1);
         for middle in [[12, 20, 28], [20, 20, 28], [12, 20, 20]] {
             let rows = &table(&middle.map(valid))[4..];
@@ -141,6 +145,8 @@ fn far(list: &mut Vec<String>) {
             }
             list.push(handler((SECTION, &head), (left, rows), SECTION, 12));
         }
+        let low = &table(&[1, 2, 3].map(valid))[4..];
+        list.push(handler((SECTION, &head), (left, low), SECTION, 5));
     }
 }
 

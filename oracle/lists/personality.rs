@@ -15,9 +15,8 @@ const WIDE: u64 = 1 << 32;
 const ROWS: [Row; 5] = [(5, 10, 1), (8, 16, 0), (12, 0, 2), (20, 0, 1), (24, 7, 3)];
 
 /// A program that reads to END, then the same rows, as deltas and words.
-const PROGRAM: [u8; 15] = [
-    0x02, 0xc9, 0x04, 0x00, 0x05, 0x05, 0x29, 0x03, 0x40, 0x04, 0x02, 0x08, 0x01, 0x04, 0x1f,
-];
+const PROGRAM: [u8; 15] =
+    [0x02, 0xc9, 0x04, 0x00, 0x05, 0x05, 0x29, 0x03, 0x40, 0x04, 0x02, 0x08, 0x01, 0x04, 0x1f];
 
 /// One request, before its phase is chosen.
 #[derive(Clone)]
@@ -67,10 +66,9 @@ impl<'a> Ask<'a> {
     fn in_phase(&self, phase: u64) -> String {
         let Ask { exception, start, handlers, version, frame, program, limit, .. } = self;
         let (interrupted, file) = (u64::from(self.interrupted), self.file.token());
-        let operation = format!(
-            "personality {phase} {exception} {interrupted} {start} {handlers} {version} {frame} {program} {limit} {file}"
-        );
-        request(self.section, self.stack, &operation)
+        let call = format!("personality {phase} {exception} {interrupted}");
+        let record = format!("{start} {handlers} {version} {frame} {program} {limit}");
+        request(self.section, self.stack, &format!("{call} {record} {file}"))
     }
 
     fn search(&self) -> String {
@@ -94,6 +92,7 @@ pub fn requests(arch: u64, random: &mut Random) -> Vec<String> {
     no_table(&mut list, arch);
     versions(&mut list, arch);
     tables(&mut list, arch);
+    tables2(&mut list, arch);
     programs(&mut list, arch);
     program_0(&mut list, arch);
     long_advances(&mut list, arch);
@@ -112,8 +111,8 @@ fn offsets(list: &mut Vec<String>, arch: u64) {
     let table = handler::table(&ROWS);
     for ask in [Ask::one(arch, (SECTION, &table)), Ask::two(arch, (SECTION, &PROGRAM))] {
         let near = [0, 4, 5, 8, 12, 20, 24, 25, WIDE - 1];
-        let wrapped = [WIDE, WIDE + 5, 7 * WIDE + 12, (1 << 63) + 8];
-        let below = [u64::MAX, u64::MAX - WIDE + 6];
+        let wrapped = [WIDE, WIDE + 5, 7 * WIDE + 12, (1 << 63) + 8, u64::MAX - WIDE + 6];
+        let below = [u64::MAX];
         for off in near.into_iter().chain(wrapped).chain(below) {
             list.extend(ask.at(off).both());
         }
@@ -124,7 +123,7 @@ fn offsets(list: &mut Vec<String>, arch: u64) {
     }
 }
 
-/// Starts from 0 to 2^64 - 1: pc is compared whole, the offset is taken modulo 2^32.
+/// Low and high starts: pc is compared whole, the offset is taken modulo 2^32.
 fn starts(list: &mut Vec<String>, arch: u64) {
     let table = handler::table(&ROWS);
     for ask in [Ask::one(arch, (SECTION, &table)), Ask::two(arch, (SECTION, &PROGRAM))] {
@@ -134,7 +133,9 @@ fn starts(list: &mut Vec<String>, arch: u64) {
             }
         }
         let low = Ask { start: 9, ..ask.clone() };
-        list.extend([u64::MAX - 8, u64::MAX - 9, u64::MAX - WIDE + 6].map(|off| low.at(off).cleanup()));
+        list.extend(
+            [u64::MAX - 8, u64::MAX - 9, u64::MAX - WIDE + 6].map(|off| low.at(off).cleanup()),
+        );
     }
 }
 
@@ -198,6 +199,26 @@ fn tables(list: &mut Vec<String>, arch: u64) {
     ];
     for table in &tables {
         let ask = Ask::one(arch, (SECTION, table));
+        list.extend(ask.at(5).both());
+        list.push(Ask { interrupted: true, ..ask }.at(5).cleanup());
+    }
+}
+
+/// Version 2 tables after an empty program, likewise.
+fn tables2(list: &mut Vec<String>, arch: u64) {
+    let tables: [&[u8]; 8] = [
+        &[0x01, 0x00, 0x29],
+        &[0x02, 0x05, 0x29, 0x00, 0x40],
+        &[0x02, 0x05, 0x01, 0x00, 0x40],
+        &[0x01, 0x05, 0x2b],
+        &[0x02, 0x05, 0x29],
+        &[0x01, 0x05, 0xa9],
+        &[0x00],
+        &[],
+    ];
+    for table in tables {
+        let section = [&[0x00], table].concat();
+        let ask = Ask::two(arch, (SECTION, &section));
         list.extend(ask.at(5).both());
         list.push(Ask { interrupted: true, ..ask }.at(5).cleanup());
     }

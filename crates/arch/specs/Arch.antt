@@ -69,7 +69,7 @@ x86-64 =
       preserved = 3 ∷ 6 ∷ 12 ∷ 13 ∷ 14 ∷ 15 ∷ [];
     }
 
--- the numbers of architecture 1, and those of 2 for any other number, which no public function lets pass
+-- the numbers of architecture 1, and those of 2 for any other number, which the functions that hosts call refuse first
 unfoldable pub numbers : ℕ → Arch
 numbers n = if eqb n 1 then aarch64 else x86-64
 

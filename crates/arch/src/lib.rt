@@ -1,6 +1,7 @@
 // The numbers of the two architectures, and register files (ps-unwind's arch/x86_64.rs and arch/aarch64.rs).
 // A public function takes an architecture by its number, 1 aarch64 or 2 x86-64, and refuses any other with 28.
-// `numbers`, `column_of` and `saved` are for the crates above, which have tested the number: there any other stands for 2.
+// `numbers`, the columns, `saved`, `saved_count` and `stripped` are for the crates above, which have tested the number: there
+// any other stands for 2.
 ghost use mathlib.Core.Path.{_≡_};
 ghost use Prim.Native.Nat.{_<_};
 ghost use lib.ListN.{length, getD};
@@ -16,9 +17,9 @@ pub const AARCH64: u8 = 1;
 pub const X86_64: u8 = 2;
 
 // The registers that a personality routine passes to a landing pad, on both.
-pub const DATA_REG0: u16 = 0;
+pub const DATA_REG0: usize = 0;
 
-pub const DATA_REG1: u16 = 1;
+pub const DATA_REG1: usize = 1;
 
 // The columns of a register file: 0 to 31 by number, then registers 72 to 79 of aarch64, then pc.
 pub const COLUMNS: usize = 41;

@@ -1,9 +1,15 @@
-// Runs document 01's examples that are not marked, and the examples of the DWARF standard, and compares.
+// Runs document 01's examples that are not marked, the examples of the DWARF standard, and the edges of the rules for 28,
+// and compares.
 // What comes out of each is written beside what should.
+use arch::Regs;
+use arch::Value;
 use leb::Number;
 use libc::STDOUT_FILENO;
+use mem::opening;
 use rows::Row;
 use rows::handler2::handler2;
+use state::State;
+use state::Status;
 
 // Writes one comparison: a name, what came out, what should.
 fn line(name: &[u8], got: usize, should: usize) {
@@ -29,29 +35,134 @@ fn uleb_value(bytes: &[u8]) -> usize {
     }
 }
 
-// The row of a return offset in the bytes of a version 2 table: 0 for none; a refusal counts from 2^32 on.
-fn row_pad(bytes: &[u8], ret: u32) -> usize {
+// The row of a return offset in the bytes of a version 2 table, its pad times 4 and its action; 2^33 for none; a refusal
+// counts from 2^32 on.
+fn row_at(bytes: &[u8], ret: u32) -> usize {
     let base: usize = 0x1000;
     let n = bytes.len() % 0x1_0000;
     match handler2(bytes, base, &bytes[0..0], 1, base, base + n, ret) {
-        Row::Is(pad, _) => pad,
-        Row::None => 0,
+        Row::Is(pad, action) => pad % 0x1_0000_0000 * 4 + action % 4,
+        Row::None => 0x2_0000_0000,
         Row::Refused(e) => 0x1_0000_0000 + e as usize,
     }
 }
 
 // Document 01's example that is not marked: a second delta of 0.
 fn ambiguous_row() {
+    let table = [2, 5, 0x29, 0, 0x40];
     line(
         b"rows 02 05 29 00 40 at 5",
-        row_pad(&[2, 5, 0x29, 0, 0x40], 5),
+        row_at(&table, 5),
         0x1_0000_0018,
     );
     line(
         b"rows 02 05 29 00 40 at 4",
-        row_pad(&[2, 5, 0x29, 0, 0x40], 4),
+        row_at(&table, 4),
+        0x2_0000_0000,
+    );
+}
+
+// Whether an opening is accepted: 1 or 0.
+fn opened(section: &[u8], section_base: usize, stack: &[u8], stack_base: usize) -> usize {
+    if opening::opens(section, section_base, stack, stack_base) {
+        return 1;
+    }
+    0
+}
+
+// The edges of the opening rule.
+fn openings() {
+    line(b"section at 0", opened(b"four", 0, b"more", 0x2000), 0);
+    line(b"section at 1", opened(b"four", 1, b"more", 0x2000), 1);
+    line(
+        b"stack at 2^62",
+        opened(b"four", 0x1000, b"more", 0x4000_0000_0000_0000),
+        1,
+    );
+    line(
+        b"stack at 2^62 + 1",
+        opened(b"four", 0x1000, b"more", 0x4000_0000_0000_0001),
         0,
     );
+    line(
+        b"stack after the section",
+        opened(b"four", 0x1000, b"more", 0x1004),
+        1,
+    );
+    line(
+        b"stack meets the section",
+        opened(b"four", 0x1000, b"more", 0x1003),
+        0,
+    );
+    line(
+        b"section after the stack",
+        opened(b"four", 0x1004, b"more", 0x1000),
+        1,
+    );
+    line(
+        b"empty stack in the section",
+        opened(b"four", 0x1000, b"", 0x1002),
+        1,
+    );
+    line(b"empty stack at 0", opened(b"four", 0x1000, b"", 0), 0);
+}
+
+// The refusal of a value: its number, or 0.
+fn refusal(v: Value) -> usize {
+    match v {
+        Value::Is(_) => 0,
+        Value::Refused(n) => n as usize,
+    }
+}
+
+// Architectures other than 1 and 2 get 28, before an unknown register gets 11.
+fn architectures() {
+    let regs = Regs { r: [0; 41] };
+    line(
+        b"register 99 of architecture 0",
+        refusal(regs.get(0, 99)),
+        28,
+    );
+    line(
+        b"register 99 of architecture 1",
+        refusal(regs.get(1, 99)),
+        11,
+    );
+    line(
+        b"register 16 of architecture 2",
+        refusal(regs.get(2, 16)),
+        0,
+    );
+    line(
+        b"register 16 of architecture 3",
+        refusal(regs.get(3, 16)),
+        28,
+    );
+}
+
+// The refusal of a save in a state that counts so many pairs.
+fn save_at(count: usize) -> usize {
+    let st = State {
+        cfa_fp: false,
+        cfa_units: 0,
+        count: count,
+        regs: [7; 32],
+        slots: [1; 32],
+    };
+    let saved = st.save(7, 2);
+    let status = saved.status;
+    match status {
+        Status::Done => 0,
+        Status::OutOfRange => 18,
+        Status::Full => 18,
+        Status::BadOpening => 28,
+    }
+}
+
+// A state that counts more than 32 pairs gets 28.
+fn counts() {
+    line(b"save beside 32 pairs", save_at(32), 0);
+    line(b"save beside 33 pairs", save_at(33), 28);
 }
 
 // The DWARF standard's examples of unsigned LEB128 (version 5, section 7.6).
@@ -67,4 +178,7 @@ fn dwarf_uleb() {
 fn main() {
     dwarf_uleb();
     ambiguous_row();
+    openings();
+    architectures();
+    counts();
 }

@@ -2,3 +2,5 @@
 pub mod Reader
 pub mod Sofar
 pub mod Meaning
+pub mod Numbers
+pub mod Section

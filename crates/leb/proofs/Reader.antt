@@ -1,18 +1,16 @@
 -- Laws of `byteAt`. Assumes nothing.
-use mathlib.Core.Path.{_≡_, refl, sym, _∙_, ap, subst}
+use mathlib.Core.Path.{_≡_, refl, sym, _∙_, ap}
 use mathlib.Core.Bool.{Bool, true, false}
-use Prim.Native.Nat.{ℕ, _^_, _≤_, _<_}
+use Prim.Native.Nat.{ℕ, _≤_, _<_}
 use native.Mathlib.Omega.{arith}
-use lib.Dec.{leb, ltb}
-use borrow.Author.Tests.{le-leb, lt-leb, leb-true, leb-false, ltb-true}
+use lib.Dec.{leb}
+use borrow.Author.Tests.{le-leb, lt-leb, leb-true, leb-false}
 use Rattle.failure.specs.Outcome.{Outcome, Refused, Answer}
-use Rattle.failure.specs.Failure.{BadEkoRecord, OutsideMemory}
+use Rattle.failure.specs.Failure.{OutsideMemory}
 use Rattle.mem.specs.Memory.{Memory}
 use Rattle.mem.specs.Word.{load}
 use Rattle.mem.proofs.Bytes.{load-refused}
-use Rattle.leb.specs.Reader.{Read, asByte, byteAt, ulebIn, ulebAt, atMost32Bits, numbered}
-use Rattle.leb.specs.declared.Uleb.{Uleb}
-use Rattle.leb.specs.declared.Uleb.the-variants as variant
+use Rattle.leb.specs.Reader.{asByte, byteAt}
 use Rattle.leb.specs.declared.Byte.{Byte}
 use Rattle.leb.specs.declared.Byte.the-variants.{Is, Limit, Outside}
 
@@ -68,24 +66,3 @@ module _ (m : Memory) (limit pos : ℕ) where
           let z : _≡_ {A = ℕ} 0 1 = cc in
           absurd (omega arith)
       go false p = (leb-false limit pos p, none (load m 1 pos) refl (rw p at e))
-
--- a number that is read is at most 2^32 - 1
-pub number-below : (m : Memory) (limit pos : ℕ) (r : Read) → numbered (ulebAt m limit pos) ≡ Answer r → r .value < 2 ^ 32
-unfolding ulebAt
-number-below m limit pos r e = go (ulebIn 5 m limit pos) e
-  where
-    none : (n : ℕ) → _≡_ {A = Outcome Read} (Refused n) (Answer r) → r .value < 2 ^ 32
-    none n p = let z : _≡_ {A = ℕ} 0 1 = cc in absurd (omega arith)
-
-    go : (u : Uleb) → numbered (atMost32Bits u) ≡ Answer r → r .value < 2 ^ 32
-    go (variant.Is v next) p = small (ltb v (2 ^ 32)) refl
-      where
-        small : (t : Bool) → ltb v (2 ^ 32) ≡ t → r .value < 2 ^ 32
-        small true q =
-            let same : Answer (record { value = v; next = next }) ≡ Answer r = rw q at p in
-            let is : record { value = v; next = next } ≡ r = cc in
-            subst (λ (x : Read). x .value < 2 ^ 32) is (ltb-true v (2 ^ 32) q)
-        small false q = none BadEkoRecord (rw q at p)
-    go variant.Limit p = none BadEkoRecord p
-    go variant.TooLarge p = none BadEkoRecord p
-    go variant.Outside p = none OutsideMemory p

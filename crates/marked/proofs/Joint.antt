@@ -12,11 +12,11 @@ use Rattle.program.specs.Rule.{frameRegs, follow}
 use Rattle.program.specs.Run.{act, run}
 use Rattle.frame.specs.Frame.{savedPairs}
 use Rattle.rows.specs.Row.{valid, checked}
-use Rattle.rows.specs.Handler2.{nextBreaks, matched, handler2}
+use Rattle.rows.specs.Handler2.{nextDelta, matched, handler2}
 use Rattle.marked.specs.Example.{Hold}
 use Rattle.marked.specs.Table.{table}
 
 pub examples-hold : Hold table
-unfolding holds bytesAt load byteAt ulebAt numbers overfull entry save without returnSaved restore formOf decode frameRegs follow act run savedPairs valid checked nextBreaks matched handler2
+unfolding holds bytesAt load byteAt ulebAt numbers overfull entry save without returnSaved restore formOf decode frameRegs follow act run savedPairs valid checked nextDelta matched handler2
 examples-hold =
     (refl, (refl, (refl, (refl, (refl, (refl, (refl, (refl, (refl, (refl, (refl, (refl, (refl, (refl, (refl, (refl, (refl, (refl, tt))))))))))))))))))

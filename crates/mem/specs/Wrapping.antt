@@ -7,7 +7,7 @@ use Rattle.failure.specs.Choice.{if_then_else_}
 abbrev pub sum : ℕ → ℕ → ℕ
 sum a b = (a + b) % 2 ^ 64
 
--- a - b modulo 2^64, for a b of at most 2^64
+-- a - b modulo 2^64, where b is at most 2^64
 abbrev pub difference : ℕ → ℕ → ℕ
 difference a b = (a + (2 ^ 64 - b)) % 2 ^ 64
 

@@ -1,11 +1,14 @@
 // The reasons of the built-in personality: ps-unwind's `personality`, by value.
-// `personality` refuses with 28 first. `decide` is for the crates above, which have tested what is lent and the architecture.
+// `personality` refuses with 28 first. `decide` is for the crates above, which have tested what is lent and the
+// architecture: there any other number stands for 2.
 ghost use mathlib.Core.Path.{_≡_};
 ghost use Rattle.mem.specs.Memory.{lent};
 ghost use Rattle.arch.specs.Arch.{numbers};
 ghost use Rattle.rows.specs.Row.{Pad, found};
 ghost use Rattle.personality.specs.Reason as Spec;
 ghost use Rattle.personality.specs.Answers.{decided};
+use arch::DATA_REG0;
+use arch::DATA_REG1;
 use arch::Regs;
 use arch::is_known;
 use failure::BAD_OPENING;
@@ -141,8 +144,8 @@ fn row_of<'a>(
 fn installed(arch: u8, exception: usize, start: usize, pad: usize, mut regs: Regs) -> Decided
     ensures { λ r. ⌜ r ≡ decided regs (Spec.installed (numbers arch) exception start pad (regs .r)) ⌝ }
 {
-    regs.r[0] = exception;
-    regs.r[1] = 0;
+    regs.r[DATA_REG0] = exception;
+    regs.r[DATA_REG1] = 0;
     Decided {
         code: Code::Reason(URC_INSTALL_CONTEXT),
         regs: regs.set_pc(wrapping::add(start, pad)),

@@ -16,7 +16,7 @@ use Rattle.program.specs.declared.decode.One.{One}
 use Rattle.program.specs.declared.decode.Form.{Form}
 use Rattle.program.specs.declared.decode.Form.the-variants.{Whole, WithNumber, WithPair, Unknown}
 use Rattle.program.specs.Operation.{formOf, completed, Decoding, restAt, decode}
-use Rattle.program.proofs.Number.{small}
+use Rattle.leb.proofs.Numbers.{small}
 
 -- the slot after a register
 abbrev pub slotAt : Memory → ℕ → Read → Outcome Decoding

@@ -1,6 +1,5 @@
 -- The laws that callers cite, each file named after what it is about.
 pub mod Form
-pub mod Number
 pub mod Decoding
 pub mod Following
 pub mod Loop

@@ -5,67 +5,40 @@ use mathlib.Core.Bool.{Bool, true, false}
 use mathlib.Core.List.{List, _∷_}
 use Prim.Native.Nat.{ℕ, zero, suc, _+_, _-_, _≤_}
 use native.Mathlib.Omega.{arith}
-use lib.Dec.{leb, eqb}
+use lib.Dec.{eqb}
 use lib.ListN.{length}
-use borrow.Author.Tests.{leb-false}
 use Rattle.failure.specs.Choice.{if_then_else_}
 use Rattle.failure.specs.Outcome as Outcome
 use Rattle.failure.specs.Outcome.{Outcome, Answer, _>>=_}
 use Rattle.mem.specs.Memory.{Region, Memory, size, lent}
-use Rattle.mem.specs.Place.{holds, bytesAt}
-use Rattle.mem.specs.Word.{load}
-use Rattle.mem.proofs.Place.{holds-when}
 use Rattle.arch.specs.Arch.{Arch}
 use Rattle.leb.specs.declared.Byte.{Byte}
-use Rattle.leb.specs.declared.Uleb.{Uleb}
-use Rattle.leb.specs.Reader.{byteAt, fromByte, ulebIn, atMost32Bits, ulebAt, Read, numbered, numberedByte}
+use Rattle.leb.specs.Reader.{byteAt, ulebAt, Read, numbered, numberedByte}
 use Rattle.program.specs.declared.decode.Form.{Form}
 use Rattle.program.specs.declared.decode.Form.the-variants.{Whole, WithNumber, WithPair, Unknown}
 use Rattle.program.specs.Operation.{formOf, Decoding, restAt, decode}
 use Rattle.program.specs.Run.{Stand, Ran, Turn, On, Ends, Refused, act, turned, runFrom, begin, run}
-use Rattle.program.proofs.Number.{small}
+use Rattle.leb.proofs.Numbers.{small}
+use Rattle.leb.proofs.Section.{byte-same, uleb-same}
 use Rattle.program.proofs.Decoding.{slotAt, decode-moves}
 
 -- two memories with the same first region, in which the limit lies
 module _ (r : Region) (m m′ : Memory) (limit : ℕ) (inside : limit ≤ r .base + size r) where
-  -- a byte of the region
-  pub byte-same : (pos : ℕ) → r .base ≤ pos → byteAt (r ∷ m) limit pos ≡ byteAt (r ∷ m′) limit pos
-  unfolding byteAt load bytesAt
-  byte-same pos h = go (leb limit pos) refl
-    where
-      go : (t : Bool) → leb limit pos ≡ t → byteAt (r ∷ m) limit pos ≡ byteAt (r ∷ m′) limit pos
-      go true p = rw p
-      go false p =
-          let held : holds (r .base) (size r) pos 1 ≡ true =
-          holds-when (r .base) (size r) pos 1 h (omega (arith, leb-false limit pos p)) in
-          rw (p, held)
-
-  -- a number that starts in the region
-  uleb-same-in : (k pos : ℕ) → r .base ≤ pos → ulebIn k (r ∷ m) limit pos ≡ ulebIn k (r ∷ m′) limit pos
-  uleb-same-in zero pos h = refl
-  uleb-same-in (suc k) pos h =
-      ap (λ (b : Byte). fromByte b pos (ulebIn k (r ∷ m) limit (pos + 1))) (byte-same pos h)
-      ∙ ap (λ (u : Uleb). fromByte (byteAt (r ∷ m′) limit pos) pos u) (uleb-same-in k (pos + 1) (omega arith))
-
-  pub uleb-same : (pos : ℕ) → r .base ≤ pos → ulebAt (r ∷ m) limit pos ≡ ulebAt (r ∷ m′) limit pos
-  unfolding ulebAt
-  uleb-same pos h = ap atMost32Bits (uleb-same-in 5 pos h)
-
   rest-same : (pos : ℕ) → r .base ≤ pos → (f : Form) → restAt (r ∷ m) limit pos f ≡ restAt (r ∷ m′) limit pos f
   rest-same pos h (Whole op) = refl
-  rest-same pos h (WithNumber o) = rw (uleb-same pos h)
-  rest-same pos h WithPair = rw (uleb-same pos h) (second (numbered (ulebAt (r ∷ m′) limit pos)) refl)
+  rest-same pos h (WithNumber o) = rw (uleb-same r m m′ limit inside pos h)
+  rest-same pos h WithPair = rw (uleb-same r m m′ limit inside pos h) (second (numbered (ulebAt (r ∷ m′) limit pos)) refl)
     where
       second : (o : Outcome Read) → numbered (ulebAt (r ∷ m′) limit pos) ≡ o →
           (o >>= λ x. slotAt (r ∷ m) limit x) ≡ (o >>= λ x. slotAt (r ∷ m′) limit x)
       second (Outcome.Refused n) p = refl
-      second (Answer x) p = rw (uleb-same (x .next) (omega (arith, small (r ∷ m′) limit pos x p .next)))
+      second (Answer x) p = rw (uleb-same r m m′ limit inside (x .next) (omega (arith, small (r ∷ m′) limit pos x p .next)))
   rest-same pos h Unknown = refl
 
   -- an operation that starts in the region
   pub decode-same : (pos : ℕ) → r .base ≤ pos → decode (r ∷ m) limit pos ≡ decode (r ∷ m′) limit pos
   unfolding decode
-  decode-same pos h = rw (byte-same pos h) (go (byteAt (r ∷ m′) limit pos))
+  decode-same pos h = rw (byte-same r m m′ limit inside pos h) (go (byteAt (r ∷ m′) limit pos))
     where
       go : (b : Byte) → (numberedByte b >>= λ code. restAt (r ∷ m) limit (pos + 1) (formOf code)) ≡
           (numberedByte b >>= λ code. restAt (r ∷ m′) limit (pos + 1) (formOf code))

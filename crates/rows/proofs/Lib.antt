@@ -4,3 +4,4 @@ pub mod Halving
 pub mod Rows2
 pub mod Rising
 pub mod Prefix
+pub mod Section

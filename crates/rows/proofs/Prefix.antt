@@ -14,7 +14,7 @@ use Rattle.mem.specs.Memory.{Memory}
 use Rattle.leb.specs.Reader.{Read}
 use Rattle.rows.specs.Row.{Found, None, Pad, valid, checked}
 use Rattle.rows.specs.Handler.{Entry, row}
-use Rattle.rows.specs.Handler2.{uleb, nextBreaks, matched, decide, rowsFrom, handler2}
+use Rattle.rows.specs.Handler2.{uleb, nextDelta, matched, decide, rowsFrom, handler2}
 use Rattle.rows.specs.Prefix.{readable, prefix, rowsOf, rowAt}
 
 -- a refusal is no answer
@@ -55,9 +55,9 @@ module _ (m : Memory) (limit ret : ℕ) where
   -- a found row has no fellow among those after it: the next delta was looked at
   matched-is : (left pos word : ℕ) (f : Found) → matched m limit left pos word ≡ Answer f → f ≡ Pad (word / 4) (word % 4)
   unfolding matched
-  matched-is left pos word f e = next (nextBreaks m limit left pos) refl
+  matched-is left pos word f e = next (nextDelta m limit left pos) refl
     where
-      next : (o : Outcome ℕ) → nextBreaks m limit left pos ≡ o → f ≡ Pad (word / 4) (word % 4)
+      next : (o : Outcome ℕ) → nextDelta m limit left pos ≡ o → f ≡ Pad (word / 4) (word % 4)
       next (Refused x) p = no-answer x f (f ≡ Pad (word / 4) (word % 4)) (rw p at e)
       next (Answer d) p = test (eqb d 0) refl
         where

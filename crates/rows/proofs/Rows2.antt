@@ -9,27 +9,27 @@ use Rattle.failure.specs.Failure.{EkoAmbiguousCallSite}
 use Rattle.mem.specs.Memory.{Memory}
 use Rattle.leb.specs.Reader.{Read, ulebAt, numbered}
 use Rattle.rows.specs.Row.{Found, checked}
-use Rattle.rows.specs.Handler2.{uleb, nextBreaks, matched, decide, rowsFrom, handler2}
+use Rattle.rows.specs.Handler2.{uleb, nextDelta, matched, decide, rowsFrom, handler2}
 
 module _ (m : Memory) (limit : ℕ) where
   module _ (left pos word : ℕ) where
     -- a found row: the last one; the next delta is refused; it is 0; it is above 0
     pub matched-last : left ≡ 0 → (o : Outcome Found) → o ≡ checked (word / 4) (word % 4) → o ≡ matched m limit left pos word
-    unfolding matched nextBreaks
+    unfolding matched nextDelta
     matched-last e o p = simp (eq-eqb left 0 e) p
 
     module _ (some : left ≡ 0 → ⊥) where
       pub matched-refused : (x : ℕ) → Refused x ≡ uleb m limit pos → Refused x ≡ matched m limit left pos word
-      unfolding matched nextBreaks
+      unfolding matched nextDelta
       matched-refused x e = simp (ne-eqb left 0 some, sym e)
 
       pub matched-ambiguous : (r : Read) → Answer r ≡ uleb m limit pos → r .value ≡ 0 → Refused EkoAmbiguousCallSite ≡ matched m limit left pos word
-      unfolding matched nextBreaks
+      unfolding matched nextDelta
       matched-ambiguous r e z = simp (ne-eqb left 0 some, sym e, eq-eqb (r .value) 0 z)
 
       pub matched-whole : (r : Read) → Answer r ≡ uleb m limit pos → (r .value ≡ 0 → ⊥) → (o : Outcome Found) →
           o ≡ checked (word / 4) (word % 4) → o ≡ matched m limit left pos word
-      unfolding matched nextBreaks
+      unfolding matched nextDelta
       matched-whole r e z o p = simp (ne-eqb left 0 some, sym e, ne-eqb (r .value) 0 z) p
 
   module _ (left pos at ret : ℕ) where

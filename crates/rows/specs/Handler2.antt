@@ -14,9 +14,9 @@ use Rattle.rows.specs.Row.{Found, None, checked}
 abbrev pub uleb : Memory → ℕ → ℕ → Outcome Read
 uleb m limit pos = numbered (ulebAt m limit pos)
 
--- the next row's delta, if a row is left, is 0
-unfoldable pub nextBreaks : Memory → ℕ → ℕ → ℕ → Outcome ℕ
-nextBreaks m limit left pos =
+-- the next row's delta, 1 where no row is left
+unfoldable pub nextDelta : Memory → ℕ → ℕ → ℕ → Outcome ℕ
+nextDelta m limit left pos =
     if eqb left 0 then Answer 1
     else (do
       delta ← uleb m limit pos
@@ -25,7 +25,7 @@ nextBreaks m limit left pos =
 -- a row that was found: 24 where the next delta is 0, then 18
 unfoldable pub matched : Memory → ℕ → ℕ → ℕ → ℕ → Outcome Found
 matched m limit left pos word = do
-  next ← nextBreaks m limit left pos
+  next ← nextDelta m limit left pos
   if eqb next 0 then Refused EkoAmbiguousCallSite else checked (word / 4) (word % 4)
 
 -- what a row's two numbers say, the row before it having the return offset at and so many rows being left at next: the rest is

@@ -1,4 +1,4 @@
--- A row: what is done where a call came back to its return offset by way of an exception.
+-- A row: what is to be done when an exception leaves the call with this return offset.
 use mathlib.Core.Bool.{Bool, true, false, not}
 use Prim.Native.Nat.{ℕ}
 use lib.Dec.{eqb}

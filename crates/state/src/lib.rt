@@ -210,7 +210,7 @@ impl State {
     }
 
     // A register back to its entry rule, by the numbers of an architecture.
-    pub fn restore_by(self, arch: u8, reg: usize) -> Next
+    pub fn restore_by(mut self, arch: u8, reg: usize) -> Next
         ensures { λ r. ⌜ r ≡ next self (Restore.restore (numbers arch) self reg) ⌝ }
     {
         let a = numbers(arch);
@@ -220,40 +220,41 @@ impl State {
                 state: self,
             };
         }
-        let st = self.without(reg);
+        let given = self;
+        self = self.without(reg);
         if reg != a.ra as usize {
             return Next {
                 status: Status::Done,
-                state: st,
+                state: self,
             };
         }
         if a.entry_ra_slot == 0 {
             return Next {
                 status: Status::Done,
-                state: st,
+                state: self,
             };
         }
-        let saved = st.save(reg, a.entry_ra_slot as usize);
+        let saved = self.save(reg, a.entry_ra_slot as usize);
         let status = saved.status;
         match status {
             Status::Done => saved,
             Status::OutOfRange => Next {
                 status: Status::OutOfRange,
-                state: self,
+                state: given,
             },
             Status::Full => Next {
                 status: Status::Full,
-                state: self,
+                state: given,
             },
             Status::BadOpening => Next {
                 status: Status::BadOpening,
-                state: self,
+                state: given,
             },
         }
     }
 
     // A register back to its entry rule.
-    pub fn restore(self, arch: u8, reg: usize) -> Next
+    pub fn restore(mut self, arch: u8, reg: usize) -> Next
         ensures { λ r. ⌜ r ≡ next self (Public.restore arch self reg) ⌝ }
     {
         if !is_known(arch) {

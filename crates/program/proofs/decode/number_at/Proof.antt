@@ -4,7 +4,7 @@ use native.Mathlib.Omega.{arith}
 use borrow.Author.Needs.{needs}
 use Rattle.leb.specs.Reader as Reader
 use Rattle.leb.specs.Reader.{numbered}
-use Rattle.program.proofs.Number.{small}
+use Rattle.leb.proofs.Numbers.{small}
 use Rattle.program.proofs.decode.number_at.Statement.{statement}
 use Rattle.program.proofs.decode.number_at.Tie as tie
 

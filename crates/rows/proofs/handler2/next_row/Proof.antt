@@ -2,7 +2,7 @@
 use mathlib.Core.Path.{refl, sym, _∙_, ap}
 use native.Mathlib.Omega.{arith}
 use Rattle.leb.specs.Reader.{Read, told}
-use Rattle.leb.proofs.Reader.{number-below}
+use Rattle.leb.proofs.Numbers.{small}
 use Rattle.rows.proofs.Rows2.{row-first, row-second, row-whole}
 use borrow.Author.Needs.{needs}
 use Rattle.rows.proofs.handler2.next_row.Statement.{statement}
@@ -32,7 +32,7 @@ decide-requires c κs =
     let t = l2 .before in
     let l = t .before .before .before in
     let start = l .before .before .before in
-    (start .pre .0, start .pre .1, number-below _ _ _ _ (sym (l .number .ensures) ∙ ap told (t .before .delta .given .1)))
+    (start .pre .0, start .pre .1, small _ _ _ _ (sym (l .number .ensures) ∙ ap told (t .before .delta .given .1)) .value)
 
 returns : tie.Need-returns
 returns c = (row-first _ _ _ _ _ _ _ (sym (ap told (c .before .n .given .1)) ∙ c .before .before .before .number .ensures), tt)

@@ -16,11 +16,11 @@ use Rattle.mem.specs.Word.{load}
 use Rattle.mem.specs.Wrapping.{sum}
 use Rattle.mem.proofs.Place.{holds-when}
 use Rattle.leb.specs.Reader.{Read, ulebAt, numbered}
-use Rattle.program.proofs.Number.{small}
-use Rattle.program.proofs.Section.{uleb-same}
+use Rattle.leb.proofs.Numbers.{small}
+use Rattle.leb.proofs.Section.{uleb-same}
 use Rattle.rows.specs.Row.{Found, None, checked}
 use Rattle.rows.specs.Handler.{Entry, entryAt, leftBreaks, rightBreaks, judged, halve, handler}
-use Rattle.rows.specs.Handler2.{uleb, nextBreaks, matched, decide, rowsFrom, handler2}
+use Rattle.rows.specs.Handler2.{uleb, nextDelta, matched, decide, rowsFrom, handler2}
 
 module _ (r : Region) (m m′ : Memory) where
   -- a word of the region
@@ -38,7 +38,7 @@ module _ (r : Region) (m m′ : Memory) where
     moves pos x p h = omega (arith, small (r ∷ m′) limit pos x p .next)
 
     matched-same : (left pos word : ℕ) → r .base ≤ pos → matched (r ∷ m) limit left pos word ≡ matched (r ∷ m′) limit left pos word
-    unfolding matched nextBreaks
+    unfolding matched nextDelta
     matched-same left pos word h = rw (number-same pos h)
 
     rows-same-from : (left pos at ret : ℕ) → r .base ≤ pos → rowsFrom left (r ∷ m) limit pos at ret ≡ rowsFrom left (r ∷ m′) limit pos at ret

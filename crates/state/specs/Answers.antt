@@ -19,12 +19,21 @@ changed OutOfRange = Refused BadEkoRecord
 changed Full = Refused BadEkoRecord
 changed Save.BadOpening = Refused BadOpening
 
--- a change as the code hands it back: the next state, or for a refusal the one that came in
+-- the status of a change, which tells a 33rd register apart
+abbrev pub statusOf : Change → Status
+statusOf (Done st) = status.Done
+statusOf OutOfRange = status.OutOfRange
+statusOf Full = status.Full
+statusOf Save.BadOpening = status.BadOpening
+
+-- the state that an answer has, or for a refusal the one that came in
+abbrev pub handedBack : State → Outcome State → State
+handedBack st (Refused n) = st
+handedBack st (Answer st′) = st′
+
+-- a change as the code hands it back
 abbrev pub next : State → Change → Next
-next st (Done st′) = record { status = status.Done; state = st′ }
-next st OutOfRange = record { status = status.OutOfRange; state = st }
-next st Full = record { status = status.Full; state = st }
-next st Save.BadOpening = record { status = status.BadOpening; state = st }
+next st x = record { status = statusOf x; state = handedBack st (changed x) }
 
 -- the change that a status and the state beside it stand for
 abbrev pub changeBy : Status → State → Change

@@ -5,3 +5,4 @@ pub mod Part
 pub mod Word
 pub mod Loaded
 pub mod Bytes
+pub mod Sums

@@ -113,6 +113,7 @@ pub enum Status {
 }
 
 // A register file of either architecture.
+#[repr(C)]
 pub struct Regs {
     pub r: [usize; COLUMNS],
 }

@@ -31,6 +31,7 @@ pub const RECORD2: usize = 12;
 pub const DATA_HANDLERS: u32 = 0x8000_0000;
 
 // One decoded function record.
+#[repr(C)]
 pub struct Record {
     pub start: usize,
     pub end: usize,

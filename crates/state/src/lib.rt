@@ -18,6 +18,7 @@ pub const MAX_SAVED: usize = 32;
 
 // The unwind state at one instruction: CFA = (sp or fp) + 8 * cfa_units; each saved register is at CFA - 8 * slot.
 // The pairs are regs[i], slots[i] for i below count; what stands past the count is part of the state too.
+#[repr(C)]
 pub struct State {
     pub cfa_fp: bool,
     pub cfa_units: u32,

@@ -1,0 +1,18 @@
+-- `capi::eko_handler` meets its contract. Assumes nothing.
+use mathlib.Core.Path.{_∙_, ap}
+use borrow.Author.Needs.{needs}
+use Rattle.capi.specs.Interface.{landing}
+use Rattle.capi.proofs.eko_handler.Statement.{statement}
+use Rattle.capi.proofs.eko_handler.Tie as tie
+
+handler-requires : tie.Need-handler-requires
+handler-requires c κs = search needs
+
+to-landing-requires : tie.Need-to-landing-requires
+to-landing-requires c κs = search needs
+
+returns : tie.Need-returns
+returns c = c .to-landing .ensures ∙ ap landing (c .before .handler .ensures)
+
+pub eko-handler-spec : {M : Type 1} → statement M
+eko-handler-spec = tie.close (tie.spec handler-requires to-landing-requires returns)

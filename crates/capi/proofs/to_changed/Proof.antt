@@ -1,0 +1,13 @@
+-- `capi::to_changed` meets its contract. Assumes nothing.
+use borrow.Author.Needs.{needs}
+use Rattle.capi.proofs.to_changed.Statement.{statement}
+use Rattle.capi.proofs.to_changed.Tie as tie
+
+change-status-requires : tie.Need-change-status-requires
+change-status-requires c κs = search needs
+
+returns : tie.Need-returns
+returns c = simp (c .change-status .ensures)
+
+pub to-changed-spec : {M : Type 1} → statement M
+to-changed-spec = tie.close (tie.spec change-status-requires returns)

@@ -1,0 +1,30 @@
+-- `capi::to_landing` meets its contract. Assumes nothing.
+use mathlib.Core.Path.{sym, ap}
+use borrow.Author.Needs.{needs}
+use Rattle.rows.specs.declared.Row.{Row}
+use Rattle.rows.specs.Row.{found}
+use Rattle.capi.specs.Interface.{landing}
+use Rattle.capi.proofs.to_landing.Statement.{statement}
+use Rattle.capi.proofs.to_landing.Tie as tie
+
+enum-known-row : tie.Need-enum-known-row
+enum-known-row c = search needs
+
+enum-told : tie.Need-enum-told
+enum-told c = search needs
+
+enum-known-row-2 : tie.Need-enum-known-row-2
+enum-known-row-2 c = search needs
+
+returns : tie.Need-returns
+returns c = sym (ap (λ (x : Row). landing (found x)) (c .before .row .given .1))
+
+returns-2 : tie.Need-returns-2
+returns-2 c = sym (ap (λ (x : Row). landing (found x)) (c .enum-told .given .1))
+
+returns-3 : tie.Need-returns-3
+returns-3 c = sym (ap (λ (x : Row). landing (found x)) (c .before .row2 .given .1))
+
+pub to-landing-spec : {M : Type 1} → statement M
+to-landing-spec =
+    tie.close (tie.spec enum-known-row enum-told enum-known-row-2 returns returns-2 returns-3)

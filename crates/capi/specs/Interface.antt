@@ -1,0 +1,108 @@
+-- Document 01's answers as the C interface hands them over: a status, which is 0 for values, 1 for none and the number of a
+-- refusal otherwise, and beside it the values. Where there are none they are 0, and a file or a state is the one that the
+-- function hands back.
+use mathlib.Core.Bool.{Bool, true, false}
+use mathlib.Core.Option.{Option, none, some}
+use Prim.Native.Nat.{ℕ}
+use Rattle.failure.specs.Outcome.{Outcome, Refused, Answer}
+use Rattle.failure.specs.Failure.{BadEkoRecord, BadOpening}
+use Rattle.arch.specs.declared.Regs.{Regs}
+use Rattle.arch.specs.declared.Next as arch
+use Rattle.arch.specs.declared.Status as arch-status
+use Rattle.arch.specs.declared.Status.the-variants as arch-case
+use Rattle.state.specs.declared.Next as state
+use Rattle.state.specs.declared.Status as state-status
+use Rattle.state.specs.declared.Status.the-variants as state-case
+use Rattle.program.specs.declared.Ended as program
+use Rattle.program.specs.declared.Status as program-status
+use Rattle.program.specs.declared.Status.the-variants as program-case
+use Rattle.personality.specs.declared.Decided as personality
+use Rattle.personality.specs.declared.Code.{Code}
+use Rattle.personality.specs.declared.Code.the-variants as code
+use Rattle.personality.specs.declared.Phase.{Phase}
+use Rattle.personality.specs.declared.Phase.the-variants.{Search, Cleanup}
+use Rattle.lookup.specs.declared.Record.{Record}
+use Rattle.lookup.specs.Lookup as Lookup
+use Rattle.leb.specs.Reader as Reader
+use Rattle.rows.specs.Row as Row
+use Rattle.rows.specs.Row.{Pad}
+use Rattle.capi.specs.declared.Number.{Number}
+use Rattle.capi.specs.declared.File.{File}
+use Rattle.capi.specs.declared.Function.{Function}
+use Rattle.capi.specs.declared.Read.{Read}
+use Rattle.capi.specs.declared.Changed.{Changed}
+use Rattle.capi.specs.declared.Ended.{Ended}
+use Rattle.capi.specs.declared.Landing.{Landing}
+use Rattle.capi.specs.declared.Decided.{Decided}
+
+-- a number
+abbrev pub number : Outcome ℕ → Number
+number (Refused n) = record { status = n; value = 0 }
+number (Answer v) = record { status = 0; value = v }
+
+-- the status of a register file that is handed back
+abbrev pub fileStatus : arch-status.Status → ℕ
+fileStatus arch-case.Done = 0
+fileStatus (arch-case.Refused n) = n
+
+-- a register file
+abbrev pub file : arch.Next → File
+file n = record { status = fileStatus (n .status); regs = n .regs }
+
+-- an answer without a record
+abbrev pub recordless : ℕ → Function
+recordless n =
+    record {
+      status = n;
+      found = record { start = 0; end = 0; frame = 0; handlers = 0; program = 0; limit = 0; version = 0 };
+    }
+
+-- the record of a pc
+abbrev pub function : Outcome (Option Lookup.Found) → Function
+function (Refused n) = recordless n
+function (Answer none) = recordless 1
+function (Answer (some f)) = record { status = 0; found = f .function }
+
+-- a number of a section and the address after it
+abbrev pub read : Outcome Reader.Read → Read
+read (Refused n) = record { status = n; value = 0; next = 0 }
+read (Answer x) = record { status = 0; value = x .value; next = x .next }
+
+-- the status of a state that is handed back: a 33rd register is 18 as the other faults of a save are
+abbrev pub changeStatus : state-status.Status → ℕ
+changeStatus state-case.Done = 0
+changeStatus state-case.OutOfRange = BadEkoRecord
+changeStatus state-case.Full = BadEkoRecord
+changeStatus state-case.BadOpening = BadOpening
+
+-- a state
+abbrev pub changed : state.Next → Changed
+changed n = record { status = changeStatus (n .status); state = n .state }
+
+-- the status of a run
+abbrev pub runStatus : program-status.Status → ℕ
+runStatus program-case.Done = 0
+runStatus (program-case.Refused n) = n
+
+-- a run: the state at the offset and the address after END, 0 where it was not read
+abbrev pub ended : program.Ended → Ended
+ended e = record { status = runStatus (e .status); state = e .state; after = e .after }
+
+-- a row
+abbrev pub landing : Outcome Row.Found → Landing
+landing (Refused n) = record { status = n; pad = 0; action = 0 }
+landing (Answer Row.None) = record { status = 1; pad = 0; action = 0 }
+landing (Answer (Pad pad action)) = record { status = 0; pad = pad; action = action }
+
+-- the phase: cleanup or search
+abbrev pub phase : Bool → Phase
+phase true = Cleanup
+phase false = Search
+
+-- a reason with its register file, by its code
+abbrev pub decidedBy : Regs → Code → Decided
+decidedBy regs (code.Reason r) = record { status = 0; reason = r; regs = regs }
+decidedBy regs (code.Refused n) = record { status = n; reason = 0; regs = regs }
+
+abbrev pub decided : personality.Decided → Decided
+decided d = decidedBy (d .regs) (d .code)

@@ -1,0 +1,2 @@
+-- The answers of the C interface.
+pub mod Interface

@@ -1,0 +1,526 @@
+// The C interface: the public functions with numbers, byte slices and structs by value, so that nothing lent is written.
+// A slice is a pointer and a length. The status of an answer is 0 where it has values, 1 for none, else document 01's number.
+ghost use mathlib.Core.Path.{_≡_};
+ghost use Rattle.mem.specs.Memory.{lent};
+ghost use Rattle.arch.specs.Arch.{numbers};
+ghost use Rattle.arch.specs.Public as Arch;
+ghost use Rattle.arch.specs.Answers as ArchAnswers;
+ghost use Rattle.lookup.specs.Lookup.{lookupArch, looked};
+ghost use Rattle.leb.specs.Reader as Reader;
+ghost use Rattle.state.specs.State.{entry};
+ghost use Rattle.state.specs.Save as Save;
+ghost use Rattle.state.specs.Public as Change;
+ghost use Rattle.state.specs.Answers as StateAnswers;
+ghost use Rattle.program.specs.Public as Program;
+ghost use Rattle.program.specs.Answers as ProgramAnswers;
+ghost use Rattle.frame.specs.Public as Frame;
+ghost use Rattle.rows.specs.Row.{found};
+ghost use Rattle.rows.specs.Handler as Handler;
+ghost use Rattle.rows.specs.Handler2 as Handler2;
+ghost use Rattle.personality.specs.Reason as Reason;
+ghost use Rattle.personality.specs.Answers as PersonalityAnswers;
+ghost use Rattle.capi.specs.Interface as Interface;
+use arch::Regs;
+use failure::BAD_EKO_HEADER;
+use failure::BAD_EKO_RECORD;
+use failure::BAD_OPENING;
+use failure::EKO_UNSORTED;
+use leb::read_uleb;
+use lookup::Lookup;
+use lookup::Record;
+use lookup::lookup_arch;
+use personality::Code;
+use personality::Phase;
+use rows::Row;
+use rows::handler::handler;
+use rows::handler2::handler2;
+use state::State;
+
+// The status of an answer with values, and of none.
+pub const ANSWERED: u32 = 0;
+
+pub const NONE: u32 = 1;
+
+// A number.
+#[repr(C)]
+pub struct Number {
+    pub status: u32,
+    pub value: usize,
+}
+
+// A register file; for a refusal the one that came in.
+#[repr(C)]
+pub struct File {
+    pub status: u32,
+    pub regs: Regs,
+}
+
+// The record of a pc.
+#[repr(C)]
+pub struct Function {
+    pub status: u32,
+    pub found: Record,
+}
+
+// A number of a section, and the address after it.
+#[repr(C)]
+pub struct Read {
+    pub status: u32,
+    pub value: usize,
+    pub next: usize,
+}
+
+// A state; for a refusal the one that came in.
+#[repr(C)]
+pub struct Changed {
+    pub status: u32,
+    pub state: State,
+}
+
+// A run; for a refusal the entry state and 0.
+#[repr(C)]
+pub struct Ended {
+    pub status: u32,
+    pub state: State,
+    pub after: usize,
+}
+
+// A row.
+#[repr(C)]
+pub struct Landing {
+    pub status: u32,
+    pub pad: usize,
+    pub action: usize,
+}
+
+// A reason with its register file; for a refusal the file that came in.
+#[repr(C)]
+pub struct Decided {
+    pub status: u32,
+    pub reason: u32,
+    pub regs: Regs,
+}
+
+// A number.
+fn to_number(v: arch::Value) -> Number
+    ensures { λ r. ⌜ r ≡ Interface.number (ArchAnswers.valued v) ⌝ }
+{
+    match v {
+        arch::Value::Is(value) => Number {
+            status: ANSWERED,
+            value,
+        },
+        arch::Value::Refused(n) => Number {
+            status: n,
+            value: 0,
+        },
+    }
+}
+
+// The status of a register file.
+fn file_status(s: arch::Status) -> u32
+    ensures { λ r. ⌜ r ≡ Interface.fileStatus s ⌝ }
+{
+    match s {
+        arch::Status::Done => ANSWERED,
+        arch::Status::Refused(n) => n,
+    }
+}
+
+// A register file after a call.
+fn to_file(n: arch::Next) -> File
+    ensures { λ r. ⌜ r ≡ Interface.file n ⌝ }
+{
+    let regs = n.regs;
+    let status = n.status;
+    File {
+        status: file_status(status),
+        regs,
+    }
+}
+
+// An answer without a record.
+fn recordless(status: u32) -> Function
+    ensures { λ r. ⌜ r ≡ Interface.recordless status ⌝ }
+{
+    Function {
+        status,
+        found: Record {
+            start: 0,
+            end: 0,
+            frame: 0,
+            handlers: 0,
+            program: 0,
+            limit: 0,
+            version: 0,
+        },
+    }
+}
+
+// What a lookup comes to.
+fn to_function(l: Lookup) -> Function
+    ensures { λ r. ⌜ r ≡ Interface.function (looked l) ⌝ }
+{
+    match l {
+        Lookup::Found(found, _) => Function {
+            status: ANSWERED,
+            found,
+        },
+        Lookup::None => recordless(NONE),
+        Lookup::BadEkoHeader => recordless(BAD_EKO_HEADER),
+        Lookup::BadEkoRecord => recordless(BAD_EKO_RECORD),
+        Lookup::EkoUnsorted => recordless(EKO_UNSORTED),
+        Lookup::BadOpening => recordless(BAD_OPENING),
+    }
+}
+
+// A number of a section.
+fn to_read(n: leb::Number) -> Read
+    ensures { λ r. ⌜ r ≡ Interface.read (Reader.told n) ⌝ }
+{
+    match n {
+        leb::Number::Is(value, next) => Read {
+            status: ANSWERED,
+            value,
+            next,
+        },
+        leb::Number::Refused(k) => Read {
+            status: k,
+            value: 0,
+            next: 0,
+        },
+    }
+}
+
+// The status of a state.
+fn change_status(s: state::Status) -> u32
+    ensures { λ r. ⌜ r ≡ Interface.changeStatus s ⌝ }
+{
+    match s {
+        state::Status::Done => ANSWERED,
+        state::Status::OutOfRange => BAD_EKO_RECORD,
+        state::Status::Full => BAD_EKO_RECORD,
+        state::Status::BadOpening => BAD_OPENING,
+    }
+}
+
+// A state after a call.
+fn to_changed(n: state::Next) -> Changed
+    ensures { λ r. ⌜ r ≡ Interface.changed n ⌝ }
+{
+    let state = n.state;
+    let status = n.status;
+    Changed {
+        status: change_status(status),
+        state,
+    }
+}
+
+// The status of a run.
+fn run_status(s: program::Status) -> u32
+    ensures { λ r. ⌜ r ≡ Interface.runStatus s ⌝ }
+{
+    match s {
+        program::Status::Done => ANSWERED,
+        program::Status::Refused(n) => n,
+    }
+}
+
+// What a run gives.
+fn to_ended(e: program::Ended) -> Ended
+    ensures { λ r. ⌜ r ≡ Interface.ended e ⌝ }
+{
+    let state = e.state;
+    let status = e.status;
+    Ended {
+        status: run_status(status),
+        state,
+        after: e.after,
+    }
+}
+
+// A row.
+fn to_landing(row: Row) -> Landing
+    ensures { λ r. ⌜ r ≡ Interface.landing (found row) ⌝ }
+{
+    match row {
+        Row::Is(pad, action) => Landing {
+            status: ANSWERED,
+            pad,
+            action,
+        },
+        Row::None => Landing {
+            status: NONE,
+            pad: 0,
+            action: 0,
+        },
+        Row::Refused(n) => Landing {
+            status: n,
+            pad: 0,
+            action: 0,
+        },
+    }
+}
+
+// The phase.
+fn to_phase(cleanup: bool) -> Phase
+    ensures { λ r. ⌜ r ≡ Interface.phase cleanup ⌝ }
+{
+    if cleanup {
+        return Phase::Cleanup;
+    }
+    Phase::Search
+}
+
+// A reason.
+fn to_decided(d: personality::Decided) -> Decided
+    ensures { λ r. ⌜ r ≡ Interface.decided d ⌝ }
+{
+    let regs = d.regs;
+    let code = d.code;
+    match code {
+        Code::Reason(reason) => Decided {
+            status: ANSWERED,
+            reason,
+            regs,
+        },
+        Code::Refused(n) => Decided {
+            status: n,
+            reason: 0,
+            regs,
+        },
+    }
+}
+
+// strip_pac.
+#[no_mangle]
+pub extern "C" fn eko_strip_pac(arch: u8, address: usize) -> Number
+    ensures { λ r. ⌜ r ≡ Interface.number (Arch.stripPac arch address) ⌝ }
+{
+    to_number(arch::strip_pac(arch, address))
+}
+
+// A register's value.
+#[no_mangle]
+pub extern "C" fn eko_get(arch: u8, regs: Regs, reg: u16) -> Number
+    ensures { λ r. ⌜ r ≡ Interface.number (Arch.get arch (regs .r) reg) ⌝ }
+{
+    to_number(regs.get(arch, reg))
+}
+
+// A register file with a register set.
+#[no_mangle]
+pub extern "C" fn eko_set(arch: u8, regs: Regs, reg: u16, value: usize) -> File
+    ensures { λ r. ⌜ r ≡ Interface.file (ArchAnswers.next regs (Arch.set arch (regs .r) reg value)) ⌝ }
+{
+    to_file(regs.set(arch, reg, value))
+}
+
+// The record of pc.
+#[no_mangle]
+pub extern "C" fn eko_lookup(
+    section: &[u8],
+    section_base: usize,
+    stack: &[u8],
+    stack_base: usize,
+    pc: usize,
+    arch: u8,
+) -> Function
+    ensures { λ r. ⌜
+        r ≡ Interface.function
+        (lookupArch (now (section .entry)) «section_base» (now (stack .entry)) «stack_base» pc arch)
+        ⌝ }
+{
+    to_function(lookup_arch(section, section_base, stack, stack_base, pc, arch))
+}
+
+// The number at a position below the limit.
+#[no_mangle]
+pub extern "C" fn eko_read_uleb<'a>(
+    section: &'a [u8],
+    section_base: usize,
+    stack: &'a [u8],
+    stack_base: usize,
+    pos: usize,
+    limit: usize,
+) -> Read
+    ensures { λ r. ⌜
+        r ≡ Interface.read
+        (Reader.readUleb (lent (now (section .entry)) «section_base» (now (stack .entry)) «stack_base») limit pos)
+        ⌝ }
+{
+    to_read(read_uleb(section, section_base, stack, stack_base, pos, limit))
+}
+
+// The entry state.
+#[no_mangle]
+pub extern "C" fn eko_entry(arch: u8) -> Changed
+    ensures { λ r. ⌜ r ≡ Interface.changed (StateAnswers.next (entry (numbers arch)) (Change.entry arch)) ⌝ }
+{
+    to_changed(State::entry(arch))
+}
+
+// A state with a register saved in a slot.
+#[no_mangle]
+pub extern "C" fn eko_save(state: State, reg: usize, slot: usize) -> Changed
+    ensures { λ r. ⌜ r ≡ Interface.changed (StateAnswers.next state (Save.save state reg slot)) ⌝ }
+{
+    to_changed(state.save(reg, slot))
+}
+
+// A state with a register back to its entry rule.
+#[no_mangle]
+pub extern "C" fn eko_restore(arch: u8, state: State, reg: usize) -> Changed
+    ensures { λ r. ⌜ r ≡ Interface.changed (StateAnswers.next state (Change.restore arch state reg)) ⌝ }
+{
+    to_changed(state.restore(arch, reg))
+}
+
+// A run of a program up to an offset.
+#[no_mangle]
+pub extern "C" fn eko_run<'a>(
+    section: &'a [u8],
+    section_base: usize,
+    stack: &'a [u8],
+    stack_base: usize,
+    arch: u8,
+    program: usize,
+    limit: usize,
+    off: usize,
+) -> Ended
+    ensures { λ r. ⌜
+        r ≡ Interface.ended
+        (ProgramAnswers.ended (entry (numbers arch))
+        (Program.run (lent (now (section .entry)) «section_base» (now (stack .entry)) «stack_base») arch program limit off))
+        ⌝ }
+{
+    to_ended(program::run(
+        section,
+        section_base,
+        stack,
+        stack_base,
+        arch,
+        program,
+        limit,
+        off,
+    ))
+}
+
+// The caller's registers from a state.
+#[no_mangle]
+pub extern "C" fn eko_apply<'a>(
+    section: &'a [u8],
+    section_base: usize,
+    stack: &'a [u8],
+    stack_base: usize,
+    arch: u8,
+    state: State,
+    regs: Regs,
+) -> File
+    ensures { λ r. ⌜
+        r ≡ Interface.file (ArchAnswers.next regs
+        (Frame.apply (lent (now (section .entry)) «section_base» (now (stack .entry)) «stack_base») arch state (regs .r)))
+        ⌝ }
+{
+    to_file(frame::apply(section, section_base, stack, stack_base, arch, state, regs))
+}
+
+// The caller's registers from a version 1 frame word.
+#[no_mangle]
+pub extern "C" fn eko_step<'a>(
+    section: &'a [u8],
+    section_base: usize,
+    stack: &'a [u8],
+    stack_base: usize,
+    arch: u8,
+    frame: u32,
+    first: bool,
+    regs: Regs,
+) -> File
+    ensures { λ r. ⌜
+        r ≡ Interface.file (ArchAnswers.next regs
+        (Frame.step (lent (now (section .entry)) «section_base» (now (stack .entry)) «stack_base») arch frame first (regs .r)))
+        ⌝ }
+{
+    to_file(frame::step(
+        section,
+        section_base,
+        stack,
+        stack_base,
+        arch,
+        frame,
+        first,
+        regs,
+    ))
+}
+
+// The row of a return offset in a table of version 1.
+#[no_mangle]
+pub extern "C" fn eko_handler<'a>(
+    section: &'a [u8],
+    section_base: usize,
+    stack: &'a [u8],
+    stack_base: usize,
+    table: usize,
+    ret: u32,
+) -> Landing
+    ensures { λ r. ⌜
+        r ≡ Interface.landing
+        (Handler.handlerIn (lent (now (section .entry)) «section_base» (now (stack .entry)) «stack_base») table ret)
+        ⌝ }
+{
+    to_landing(handler(section, section_base, stack, stack_base, table, ret))
+}
+
+// The row of a return offset in a table of version 2.
+#[no_mangle]
+pub extern "C" fn eko_handler2<'a>(
+    section: &'a [u8],
+    section_base: usize,
+    stack: &'a [u8],
+    stack_base: usize,
+    table: usize,
+    limit: usize,
+    ret: u32,
+) -> Landing
+    ensures { λ r. ⌜
+        r ≡ Interface.landing
+        (Handler2.handler2In (lent (now (section .entry)) «section_base» (now (stack .entry)) «stack_base») table limit ret)
+        ⌝ }
+{
+    to_landing(handler2(section, section_base, stack, stack_base, table, limit, ret))
+}
+
+// The reason of a frame, in the search phase or the cleanup phase.
+#[no_mangle]
+pub extern "C" fn eko_personality<'a>(
+    section: &'a [u8],
+    section_base: usize,
+    stack: &'a [u8],
+    stack_base: usize,
+    arch: u8,
+    cleanup: bool,
+    exception: usize,
+    interrupted: bool,
+    function: Record,
+    regs: Regs,
+) -> Decided
+    ensures { λ r. ⌜
+        r ≡ Interface.decided (PersonalityAnswers.decided regs
+        (Reason.personalityIn (lent (now (section .entry)) «section_base» (now (stack .entry)) «stack_base»)
+        arch (Interface.phase cleanup) exception interrupted function (regs .r)))
+        ⌝ }
+{
+    to_decided(personality::personality(
+        section,
+        section_base,
+        stack,
+        stack_base,
+        arch,
+        to_phase(cleanup),
+        exception,
+        interrupted,
+        function,
+        regs,
+    ))
+}

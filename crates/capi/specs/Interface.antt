@@ -79,6 +79,12 @@ changeStatus state-case.BadOpening = BadOpening
 abbrev pub changed : state.Next → Changed
 changed n = record { status = changeStatus (n .status); state = n .state }
 
+-- the slot of a register
+abbrev pub slot : Outcome (Option ℕ) → Number
+slot (Refused n) = record { status = n; value = 0 }
+slot (Answer none) = record { status = 1; value = 0 }
+slot (Answer (some s)) = record { status = 0; value = s }
+
 -- the status of a run
 abbrev pub runStatus : program-status.Status → ℕ
 runStatus program-case.Done = 0

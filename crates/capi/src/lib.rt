@@ -34,6 +34,7 @@ use personality::Phase;
 use rows::Row;
 use rows::handler::handler;
 use rows::handler2::handler2;
+use state::Slot;
 use state::State;
 
 // The status of an answer with values, and of none.
@@ -216,6 +217,26 @@ fn to_changed(n: state::Next) -> Changed
     }
 }
 
+// The slot of a register.
+fn to_slot(s: Slot) -> Number
+    ensures { λ r. ⌜ r ≡ Interface.slot (StateAnswers.slotted s) ⌝ }
+{
+    match s {
+        Slot::In(k) => Number {
+            status: ANSWERED,
+            value: k as usize,
+        },
+        Slot::Unsaved => Number {
+            status: NONE,
+            value: 0,
+        },
+        Slot::BadOpening => Number {
+            status: BAD_OPENING,
+            value: 0,
+        },
+    }
+}
+
 // The status of a run.
 fn run_status(s: program::Status) -> u32
     ensures { λ r. ⌜ r ≡ Interface.runStatus s ⌝ }
@@ -308,12 +329,36 @@ pub extern "C" fn eko_get(arch: u8, regs: Regs, reg: u16) -> Number
     to_number(regs.get(arch, reg))
 }
 
+// The frame pointer.
+#[no_mangle]
+pub extern "C" fn eko_fp(arch: u8, regs: Regs) -> Number
+    ensures { λ r. ⌜ r ≡ Interface.number (Arch.fp arch (regs .r)) ⌝ }
+{
+    to_number(regs.fp(arch))
+}
+
+// The stack pointer.
+#[no_mangle]
+pub extern "C" fn eko_sp(arch: u8, regs: Regs) -> Number
+    ensures { λ r. ⌜ r ≡ Interface.number (Arch.sp arch (regs .r)) ⌝ }
+{
+    to_number(regs.sp(arch))
+}
+
 // A register file with a register set.
 #[no_mangle]
 pub extern "C" fn eko_set(arch: u8, regs: Regs, reg: u16, value: usize) -> File
     ensures { λ r. ⌜ r ≡ Interface.file (ArchAnswers.next regs (Arch.set arch (regs .r) reg value)) ⌝ }
 {
     to_file(regs.set(arch, reg, value))
+}
+
+// A register file with the stack pointer set.
+#[no_mangle]
+pub extern "C" fn eko_set_sp(arch: u8, regs: Regs, value: usize) -> File
+    ensures { λ r. ⌜ r ≡ Interface.file (ArchAnswers.next regs (Arch.setSp arch (regs .r) value)) ⌝ }
+{
+    to_file(regs.set_sp(arch, value))
 }
 
 // The record of pc.
@@ -358,6 +403,14 @@ pub extern "C" fn eko_entry(arch: u8) -> Changed
     ensures { λ r. ⌜ r ≡ Interface.changed (StateAnswers.next (entry (numbers arch)) (Change.entry arch)) ⌝ }
 {
     to_changed(State::entry(arch))
+}
+
+// The slot of a register, none if it is not saved.
+#[no_mangle]
+pub extern "C" fn eko_slot(state: State, reg: u16) -> Number
+    ensures { λ r. ⌜ r ≡ Interface.slot (Change.slot state reg) ⌝ }
+{
+    to_slot(state.slot(reg))
 }
 
 // A state with a register saved in a slot.

@@ -1,0 +1,167 @@
+//! One function for each operation of the protocol: it reads all its arguments, calls the library, and writes the answer.
+use morthwyga::{Arch, Memory, Phase, Record, Regs, Row, State, strip_pac};
+
+use crate::args::{Args, Parsed, Stop, columns};
+
+type Answer = Parsed<String>;
+
+/// SBASE SHEX KBASE KHEX OP ARGS...
+pub fn answer(arch: Arch, line: &str) -> Answer {
+    let mut args = Args::new(line);
+    let (section_base, section) = args.range()?;
+    let (stack_base, stack) = args.range()?;
+    let memory = Memory { section: &section, section_base, stack: &stack, stack_base };
+    let args = &mut args;
+    match args.token()? {
+        "lookup" => lookup(arch, memory, args),
+        "run" => run(arch, memory, args),
+        "apply" => apply(arch, memory, args),
+        "step" => step(arch, memory, args),
+        "handler" => handler(memory, args),
+        "handler2" => handler2(memory, args),
+        "personality" => personality(arch, memory, args),
+        "save" => save(args),
+        "restore" => restore(arch, args),
+        "uleb" => uleb(memory, args),
+        "get" => get(arch, args),
+        "set" => set(arch, args),
+        "strip" => strip(arch, args),
+        _ => Err(Stop::Bad),
+    }
+}
+
+fn lookup(arch: Arch, memory: Memory, args: &mut Args) -> Answer {
+    let pc = args.number()?;
+    args.end()?;
+    Ok(match memory.lookup(arch, pc)? {
+        None => "none".to_string(),
+        Some(r) => format!(
+            "rec {} {} {} {} {} {} {}",
+            r.start, r.end, r.frame, r.handlers, r.program, r.limit, r.version
+        ),
+    })
+}
+
+fn run(arch: Arch, memory: Memory, args: &mut Args) -> Answer {
+    let (program, limit, off) = (args.number()?, args.number()?, args.number()?);
+    args.end()?;
+    let (state, after) = memory.run(arch, program, limit, off)?;
+    Ok(format!("{} {after}", state_text(&state)))
+}
+
+fn apply(arch: Arch, memory: Memory, args: &mut Args) -> Answer {
+    let (state, regs) = (args.state()?, args.regs(arch)?);
+    args.end()?;
+    Ok(regs_text(arch, &memory.apply(arch, state, regs)?))
+}
+
+fn step(arch: Arch, memory: Memory, args: &mut Args) -> Answer {
+    let (frame, first, regs) = (args.number()?, args.flag()?, args.regs(arch)?);
+    args.end()?;
+    Ok(regs_text(arch, &memory.step(arch, frame, first, regs)?))
+}
+
+fn handler(memory: Memory, args: &mut Args) -> Answer {
+    let (table, ret) = (args.number()?, args.number()?);
+    args.end()?;
+    Ok(row_text(memory.handler(table, ret)?))
+}
+
+fn handler2(memory: Memory, args: &mut Args) -> Answer {
+    let (table, limit, ret) = (args.number()?, args.number()?, args.number()?);
+    args.end()?;
+    Ok(row_text(memory.handler2(table, limit, ret)?))
+}
+
+/// PHASE EXC INTERRUPTED START HANDLERS VERSION FRAME PROGRAM LIMIT REGS
+fn personality(arch: Arch, memory: Memory, args: &mut Args) -> Answer {
+    let phase = phase(args)?;
+    let (exception, interrupted) = (args.number()?, args.flag()?);
+    let function = record(args)?;
+    let regs = args.regs(arch)?;
+    args.end()?;
+    let (reason, regs) = memory.personality(arch, phase, exception, interrupted, function, regs)?;
+    Ok(format!("reason {} {}", reason as u32, list_text(arch, &regs)))
+}
+
+/// 1 search, 2 cleanup.
+fn phase(args: &mut Args) -> Parsed<Phase> {
+    match args.number::<u64>()? {
+        1 => Ok(Phase::Search),
+        2 => Ok(Phase::Cleanup),
+        _ => Err(Stop::Bad),
+    }
+}
+
+/// START HANDLERS VERSION FRAME PROGRAM LIMIT; a personality does not look at the end.
+fn record(args: &mut Args) -> Parsed<Record> {
+    let (start, handlers) = (args.number()?, args.number()?);
+    let (version, frame) = (args.number()?, args.number()?);
+    let (program, limit) = (args.number()?, args.number()?);
+    Ok(Record { start, end: 0, frame, handlers, program, limit, version })
+}
+
+fn save(args: &mut Args) -> Answer {
+    let state = args.state()?;
+    let (reg, slot) = (args.number()?, args.number()?);
+    args.end()?;
+    Ok(state_text(&state.save(reg, slot)?))
+}
+
+fn restore(arch: Arch, args: &mut Args) -> Answer {
+    let (state, reg) = (args.state()?, args.number()?);
+    args.end()?;
+    Ok(state_text(&state.restore(arch, reg)?))
+}
+
+fn uleb(memory: Memory, args: &mut Args) -> Answer {
+    let (pos, end) = (args.number()?, args.number()?);
+    args.end()?;
+    let (value, next) = memory.read_uleb(pos, end)?;
+    Ok(format!("uleb {value} {next}"))
+}
+
+fn get(arch: Arch, args: &mut Args) -> Answer {
+    let (reg, regs) = (args.number()?, args.regs(arch)?);
+    args.end()?;
+    Ok(value_text(regs.get(arch, reg)?))
+}
+
+fn set(arch: Arch, args: &mut Args) -> Answer {
+    let (reg, value, regs) = (args.number()?, args.number()?, args.regs(arch)?);
+    args.end()?;
+    Ok(regs_text(arch, &regs.set(arch, reg, value)?))
+}
+
+fn strip(arch: Arch, args: &mut Args) -> Answer {
+    let address = args.number()?;
+    args.end()?;
+    Ok(value_text(strip_pac(arch, address)?))
+}
+
+fn value_text(value: usize) -> String {
+    format!("value {value}")
+}
+
+fn row_text(row: Option<Row>) -> String {
+    match row {
+        None => "none".to_string(),
+        Some(row) => format!("row {} {}", row.pad, row.action),
+    }
+}
+
+/// All 32 pairs, those past the count included.
+fn state_text(state: &State) -> String {
+    let pairs: Vec<String> = state.regs.iter().zip(state.slots).map(|(reg, slot)| format!("{reg}:{slot}")).collect();
+    let fp = state.cfa_fp as u8;
+    format!("state {fp} {} {} {}", state.cfa_units, state.count, pairs.join(","))
+}
+
+fn regs_text(arch: Arch, regs: &Regs) -> String {
+    format!("regs {}", list_text(arch, regs))
+}
+
+fn list_text(arch: Arch, regs: &Regs) -> String {
+    let values: Vec<String> = columns(arch).iter().map(|column| regs.r[*column].to_string()).collect();
+    values.join(",")
+}

@@ -1,0 +1,279 @@
+//! Unwinding by EKO tables, proved: the safe interface over Morthwyga's static library.
+//!
+//! Memory is lent as [`Memory`]: the bytes of an EKO section and of a stack, each with the address of its first byte. The
+//! library reads nothing else and writes nothing. Every function takes every input and returns; what it cannot answer it
+//! refuses with a [`Failure`].
+//!
+//! ```
+//! use morthwyga::{Arch, Failure, Memory};
+//!
+//! let memory = Memory { section: &[], section_base: 0x1000, stack: &[], stack_base: 0x2000 };
+//! assert_eq!(memory.lookup(Arch::X86_64, 0x1234), Ok(None));
+//! ```
+mod raw;
+
+/// An architecture, by the number that an EKO section names it with.
+#[derive(Clone, Copy, PartialEq, Eq, Debug)]
+#[repr(u8)]
+pub enum Arch {
+    Aarch64 = 1,
+    X86_64 = 2,
+}
+
+/// Why a call was refused.
+#[derive(Clone, Copy, PartialEq, Eq, Debug)]
+pub enum Failure {
+    RememberStackOverflow,
+    UnknownRegister,
+    BadCfaRule,
+    BadEkoHeader,
+    BadEkoRecord,
+    EkoUnsorted,
+    StackNotAdvancing,
+    HandlerFrameMissed,
+    Misaligned,
+    EkoAmbiguousCallSite,
+    EkoAsyncFrame,
+    OutsideMemory,
+    BadOpening,
+    TooManyFrames,
+}
+
+/// Every failure with its number.
+const FAILURES: [(u32, Failure); 14] = [
+    (10, Failure::RememberStackOverflow),
+    (11, Failure::UnknownRegister),
+    (12, Failure::BadCfaRule),
+    (17, Failure::BadEkoHeader),
+    (18, Failure::BadEkoRecord),
+    (19, Failure::EkoUnsorted),
+    (20, Failure::StackNotAdvancing),
+    (22, Failure::HandlerFrameMissed),
+    (23, Failure::Misaligned),
+    (24, Failure::EkoAmbiguousCallSite),
+    (25, Failure::EkoAsyncFrame),
+    (27, Failure::OutsideMemory),
+    (28, Failure::BadOpening),
+    (29, Failure::TooManyFrames),
+];
+
+impl Failure {
+    /// The number of this failure.
+    pub fn number(self) -> u32 {
+        let (number, _) = FAILURES.iter().find(|(_, f)| *f == self).expect("every failure is listed");
+        *number
+    }
+
+    fn of(number: u32) -> Failure {
+        let (_, failure) = FAILURES.iter().find(|(n, _)| *n == number).expect("the library answers listed numbers only");
+        *failure
+    }
+}
+
+/// A register file. The columns: registers 0 to 31 by number, then 72 to 79 of aarch64, then pc.
+#[derive(Clone, Copy, PartialEq, Eq, Debug)]
+#[repr(C)]
+pub struct Regs {
+    pub r: [usize; 41],
+}
+
+/// One decoded function record.
+#[derive(Clone, Copy, PartialEq, Eq, Debug)]
+#[repr(C)]
+pub struct Record {
+    pub start: usize,
+    pub end: usize,
+    pub frame: u32,
+    /// Address of the row table, 0 where there is none. Version 2: of the program that it follows.
+    pub handlers: usize,
+    /// Version 2: address of the state program, 0 where there is none. Version 1: 0.
+    pub program: usize,
+    /// Version 2: the chunk's end. Version 1: 0.
+    pub limit: usize,
+    pub version: u8,
+}
+
+/// The unwind state at one instruction: CFA = (sp or fp) + 8 * `cfa_units`; register `regs[i]` is saved at CFA - 8 *
+/// `slots[i]` for i below `count`, which is at most 32.
+#[derive(Clone, Copy, PartialEq, Eq, Debug)]
+#[repr(C)]
+pub struct State {
+    pub cfa_fp: bool,
+    pub cfa_units: u32,
+    pub count: usize,
+    pub regs: [u16; 32],
+    pub slots: [u16; 32],
+}
+
+/// A row of a frame: its landing pad, from the start of its function, and what stands there (0 cleanup, 1 catch,
+/// 2 terminate).
+#[derive(Clone, Copy, PartialEq, Eq, Debug)]
+pub struct Row {
+    pub pad: usize,
+    pub action: usize,
+}
+
+/// The two phases of an unwinding.
+#[derive(Clone, Copy, PartialEq, Eq, Debug)]
+pub enum Phase {
+    Search,
+    Cleanup,
+}
+
+/// What a personality routine decided.
+#[derive(Clone, Copy, PartialEq, Eq, Debug)]
+#[repr(u32)]
+pub enum Reason {
+    FatalPhase2Error = 2,
+    FatalPhase1Error = 3,
+    HandlerFound = 6,
+    InstallContext = 7,
+    ContinueUnwind = 8,
+}
+
+impl Reason {
+    fn of(number: u32) -> Reason {
+        match number {
+            2 => Reason::FatalPhase2Error,
+            3 => Reason::FatalPhase1Error,
+            6 => Reason::HandlerFound,
+            7 => Reason::InstallContext,
+            8 => Reason::ContinueUnwind,
+            _ => unreachable!("the library answers the five reasons only"),
+        }
+    }
+}
+
+/// The values, unless the status is a refusal's.
+fn answered<T>(status: u32, values: T) -> Result<T, Failure> {
+    if status == 0 { Ok(values) } else { Err(Failure::of(status)) }
+}
+
+/// The values, or none, unless the status is a refusal's.
+fn optional<T>(status: u32, values: T) -> Result<Option<T>, Failure> {
+    if status == 1 { Ok(None) } else { answered(status, Some(values)) }
+}
+
+/// An address without the bits of a pointer authentication code.
+pub fn strip_pac(arch: Arch, address: usize) -> Result<usize, Failure> {
+    let a = raw::eko_strip_pac(arch as u8, address);
+    answered(a.status, a.value)
+}
+
+impl Regs {
+    /// The value of a register, by its DWARF number.
+    pub fn get(self, arch: Arch, reg: u16) -> Result<usize, Failure> {
+        let a = raw::eko_get(arch as u8, self, reg);
+        answered(a.status, a.value)
+    }
+
+    /// The file with a register set.
+    pub fn set(self, arch: Arch, reg: u16, value: usize) -> Result<Regs, Failure> {
+        let a = raw::eko_set(arch as u8, self, reg, value);
+        answered(a.status, a.regs)
+    }
+}
+
+impl State {
+    /// The state at a function's entry.
+    pub fn entry(arch: Arch) -> Result<State, Failure> {
+        let a = raw::eko_entry(arch as u8);
+        answered(a.status, a.state)
+    }
+
+    /// The state with a register saved in a slot.
+    pub fn save(self, reg: usize, slot: usize) -> Result<State, Failure> {
+        let a = raw::eko_save(self, reg, slot);
+        answered(a.status, a.state)
+    }
+
+    /// The state with a register back to its entry rule.
+    pub fn restore(self, arch: Arch, reg: usize) -> Result<State, Failure> {
+        let a = raw::eko_restore(arch as u8, self, reg);
+        answered(a.status, a.state)
+    }
+}
+
+/// What is lent: the bytes of an EKO section and of a stack, each with the address of its first byte.
+#[derive(Clone, Copy, Debug)]
+pub struct Memory<'a> {
+    pub section: &'a [u8],
+    pub section_base: usize,
+    pub stack: &'a [u8],
+    pub stack_base: usize,
+}
+
+/// Calls a function of the library with what is lent and further arguments.
+macro_rules! lend {
+    ($memory:expr, $function:ident, $($argument:expr),*) => {{
+        let m = $memory;
+        // Safety: both pointers are those of slices that live through the call, each with its length, and the library only
+        // reads them.
+        unsafe {
+            raw::$function(
+                m.section.as_ptr(), m.section.len(), m.section_base,
+                m.stack.as_ptr(), m.stack.len(), m.stack_base,
+                $($argument),*
+            )
+        }
+    }};
+}
+
+impl Memory<'_> {
+    /// The record of the function that pc lies in.
+    pub fn lookup(self, arch: Arch, pc: usize) -> Result<Option<Record>, Failure> {
+        let a = lend!(self, eko_lookup, pc, arch as u8);
+        optional(a.status, a.found)
+    }
+
+    /// The ULEB128 number at a position below the limit, and the address after it.
+    pub fn read_uleb(self, pos: usize, limit: usize) -> Result<(usize, usize), Failure> {
+        let a = lend!(self, eko_read_uleb, pos, limit);
+        answered(a.status, (a.value, a.next))
+    }
+
+    /// The state at an offset of a function, and the address after its program's END, 0 where that was not read.
+    pub fn run(self, arch: Arch, program: usize, limit: usize, off: usize) -> Result<(State, usize), Failure> {
+        let a = lend!(self, eko_run, arch as u8, program, limit, off);
+        answered(a.status, (a.state, a.after))
+    }
+
+    /// The caller's registers from a state.
+    pub fn apply(self, arch: Arch, state: State, regs: Regs) -> Result<Regs, Failure> {
+        let a = lend!(self, eko_apply, arch as u8, state, regs);
+        answered(a.status, a.regs)
+    }
+
+    /// The caller's registers from a version 1 frame word; `first` says that the frame was interrupted.
+    pub fn step(self, arch: Arch, frame: u32, first: bool, regs: Regs) -> Result<Regs, Failure> {
+        let a = lend!(self, eko_step, arch as u8, frame, first, regs);
+        answered(a.status, a.regs)
+    }
+
+    /// The row of a return offset in a version 1 table.
+    pub fn handler(self, table: usize, ret: u32) -> Result<Option<Row>, Failure> {
+        let a = lend!(self, eko_handler, table, ret);
+        optional(a.status, Row { pad: a.pad, action: a.action })
+    }
+
+    /// The row of a return offset in a version 2 table.
+    pub fn handler2(self, table: usize, limit: usize, ret: u32) -> Result<Option<Row>, Failure> {
+        let a = lend!(self, eko_handler2, table, limit, ret);
+        optional(a.status, Row { pad: a.pad, action: a.action })
+    }
+
+    /// The reason of a frame, and the registers that go with it.
+    pub fn personality(
+        self,
+        arch: Arch,
+        phase: Phase,
+        exception: usize,
+        interrupted: bool,
+        function: Record,
+        regs: Regs,
+    ) -> Result<(Reason, Regs), Failure> {
+        let cleanup = phase == Phase::Cleanup;
+        let a = lend!(self, eko_personality, arch as u8, cleanup, exception, interrupted, function, regs);
+        answered(a.status, (a.reason, a.regs)).map(|(reason, regs)| (Reason::of(reason), regs))
+    }
+}

@@ -70,6 +70,9 @@ impl Failure {
     }
 }
 
+/// The column of pc in a register file.
+pub const PC_COLUMN: usize = 40;
+
 /// A register file. The columns: registers 0 to 31 by number, then 72 to 79 of aarch64, then pc.
 #[derive(Clone, Copy, PartialEq, Eq, Debug)]
 #[repr(C)]
@@ -167,9 +170,32 @@ impl Regs {
         answered(a.status, a.value)
     }
 
+    /// The frame pointer.
+    pub fn fp(self, arch: Arch) -> Result<usize, Failure> {
+        let a = raw::eko_fp(arch as u8, self);
+        answered(a.status, a.value)
+    }
+
+    /// The stack pointer.
+    pub fn sp(self, arch: Arch) -> Result<usize, Failure> {
+        let a = raw::eko_sp(arch as u8, self);
+        answered(a.status, a.value)
+    }
+
+    /// The program counter.
+    pub fn pc(self) -> usize {
+        self.r[PC_COLUMN]
+    }
+
     /// The file with a register set.
     pub fn set(self, arch: Arch, reg: u16, value: usize) -> Result<Regs, Failure> {
         let a = raw::eko_set(arch as u8, self, reg, value);
+        answered(a.status, a.regs)
+    }
+
+    /// The file with the stack pointer set.
+    pub fn set_sp(self, arch: Arch, value: usize) -> Result<Regs, Failure> {
+        let a = raw::eko_set_sp(arch as u8, self, value);
         answered(a.status, a.regs)
     }
 }
@@ -179,6 +205,12 @@ impl State {
     pub fn entry(arch: Arch) -> Result<State, Failure> {
         let a = raw::eko_entry(arch as u8);
         answered(a.status, a.state)
+    }
+
+    /// The slot of a register, none if it is not saved.
+    pub fn slot(self, reg: u16) -> Result<Option<usize>, Failure> {
+        let a = raw::eko_slot(self, reg);
+        optional(a.status, a.value)
     }
 
     /// The state with a register saved in a slot.

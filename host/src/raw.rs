@@ -56,8 +56,12 @@ pub struct Decided {
 unsafe extern "C" {
     pub safe fn eko_strip_pac(arch: u8, address: usize) -> Number;
     pub safe fn eko_get(arch: u8, regs: Regs, reg: u16) -> Number;
+    pub safe fn eko_fp(arch: u8, regs: Regs) -> Number;
+    pub safe fn eko_sp(arch: u8, regs: Regs) -> Number;
     pub safe fn eko_set(arch: u8, regs: Regs, reg: u16, value: usize) -> File;
+    pub safe fn eko_set_sp(arch: u8, regs: Regs, value: usize) -> File;
     pub safe fn eko_entry(arch: u8) -> Changed;
+    pub safe fn eko_slot(state: State, reg: u16) -> Number;
     pub safe fn eko_save(state: State, reg: usize, slot: usize) -> Changed;
     pub safe fn eko_restore(arch: u8, state: State, reg: usize) -> Changed;
     pub fn eko_lookup(

@@ -1,4 +1,4 @@
-//! generate MODULE ARCH: prints requests of the line protocol, in every run the same ones.
+//! generate MODULE ARCH [SEED]: prints requests of the line protocol, for a seed in every run the same ones.
 
 mod apply;
 mod file;
@@ -23,12 +23,12 @@ const SEED: u64 = 0x6d6f_7274_6877_7967;
 fn main() {
     let args: Vec<String> = std::env::args().skip(1).collect();
     let list = match args.iter().map(String::as_str).collect::<Vec<_>>()[..] {
-        [module, "1"] => requests(module, 1),
-        [module, "2"] => requests(module, 2),
+        [module, arch] => requests(module, arch, "0"),
+        [module, arch, seed] => requests(module, arch, seed),
         _ => None,
     };
     let Some(list) = list else {
-        eprintln!("usage: generate MODULE ARCH, where MODULE is foundation, lookup, frame, program or rows and ARCH 1 or 2");
+        eprintln!("usage: generate MODULE ARCH [SEED], where MODULE is foundation, lookup, frame, program or rows and ARCH 1 or 2");
         exit(2);
     };
     let mut seen = HashSet::new();
@@ -38,8 +38,10 @@ fn main() {
 }
 
 /// A new module adds its line here.
-fn requests(module: &str, arch: u64) -> Option<Vec<String>> {
-    let random = &mut Random::new(SEED ^ arch);
+fn requests(module: &str, arch: &str, seed: &str) -> Option<Vec<String>> {
+    let arch = arch.parse().ok().filter(|n| [1, 2].contains(n))?;
+    let seed: u32 = seed.parse().ok()?;
+    let random = &mut Random::new(SEED ^ arch ^ (u64::from(seed) << 2));
     match module {
         "foundation" => Some(foundation(arch, random)),
         "lookup" => Some(lookup::requests(arch, random)),

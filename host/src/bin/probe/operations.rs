@@ -25,6 +25,9 @@ pub fn answer(arch: Arch, line: &str) -> Answer {
         "uleb" => uleb(memory, args),
         "get" => get(arch, args),
         "set" => set(arch, args),
+        "fp" => fp(arch, args),
+        "sp" => sp(arch, args),
+        "set_sp" => set_sp(arch, args),
         "strip" => strip(arch, args),
         _ => Err(Stop::Bad),
     }
@@ -131,6 +134,24 @@ fn set(arch: Arch, args: &mut Args) -> Answer {
     let (reg, value, regs) = (args.number()?, args.number()?, args.regs(arch)?);
     args.end()?;
     Ok(regs_text(arch, &regs.set(arch, reg, value)?))
+}
+
+fn fp(arch: Arch, args: &mut Args) -> Answer {
+    let regs = args.regs(arch)?;
+    args.end()?;
+    Ok(value_text(regs.fp(arch)?))
+}
+
+fn sp(arch: Arch, args: &mut Args) -> Answer {
+    let regs = args.regs(arch)?;
+    args.end()?;
+    Ok(value_text(regs.sp(arch)?))
+}
+
+fn set_sp(arch: Arch, args: &mut Args) -> Answer {
+    let (value, regs) = (args.number()?, args.regs(arch)?);
+    args.end()?;
+    Ok(regs_text(arch, &regs.set_sp(arch, value)?))
 }
 
 fn strip(arch: Arch, args: &mut Args) -> Answer {

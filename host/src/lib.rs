@@ -108,12 +108,32 @@ pub struct State {
     pub slots: [u16; 32],
 }
 
-/// A row of a frame: its landing pad, from the start of its function, and what stands there (0 cleanup, 1 catch,
-/// 2 terminate).
+/// What a row asks for.
+#[derive(Clone, Copy, PartialEq, Eq, Debug)]
+#[repr(usize)]
+pub enum Action {
+    Cleanup = 0,
+    Catch = 1,
+    Terminate = 2,
+}
+
+/// A row of a frame: its landing pad, from the start of its function, and what it asks for.
 #[derive(Clone, Copy, PartialEq, Eq, Debug)]
 pub struct Row {
     pub pad: usize,
-    pub action: usize,
+    pub action: Action,
+}
+
+impl Row {
+    fn of(a: raw::Landing) -> Row {
+        let action = match a.action {
+            0 => Action::Cleanup,
+            1 => Action::Catch,
+            2 => Action::Terminate,
+            _ => unreachable!("a row with any other action is refused"),
+        };
+        Row { pad: a.pad, action }
+    }
 }
 
 /// The two phases of an unwinding.
@@ -285,13 +305,13 @@ impl Memory<'_> {
     /// The row of a return offset in a version 1 table.
     pub fn handler(self, table: usize, ret: u32) -> Result<Option<Row>, Failure> {
         let a = lend!(self, eko_handler, table, ret);
-        optional(a.status, Row { pad: a.pad, action: a.action })
+        optional(a.status, Row::of(a))
     }
 
     /// The row of a return offset in a version 2 table.
     pub fn handler2(self, table: usize, limit: usize, ret: u32) -> Result<Option<Row>, Failure> {
         let a = lend!(self, eko_handler2, table, limit, ret);
-        optional(a.status, Row { pad: a.pad, action: a.action })
+        optional(a.status, Row::of(a))
     }
 
     /// The reason of a frame, and the registers that go with it.

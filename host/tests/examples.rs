@@ -1,5 +1,5 @@
 //! Document 01's examples and the edges of the interface, through the static library.
-use morthwyga::{Arch, Failure, Memory, PC_COLUMN, Phase, Reason, Record, Regs, Row, State, strip_pac};
+use morthwyga::{Action, Arch, Failure, Memory, PC_COLUMN, Phase, Reason, Record, Regs, Row, State, strip_pac};
 
 const SECTION: usize = 0x1000;
 const STACK: usize = 0x2000;
@@ -59,8 +59,8 @@ fn states() {
 fn rows() {
     let rows = [0x02, 0x05, 0x29, 0x03, 0x40];
     let at = |ret| section(&rows).handler2(SECTION, SECTION + rows.len(), ret);
-    assert_eq!(at(5), Ok(Some(Row { pad: 10, action: 1 })));
-    assert_eq!(at(8), Ok(Some(Row { pad: 16, action: 0 })));
+    assert_eq!(at(5), Ok(Some(Row { pad: 10, action: Action::Catch })));
+    assert_eq!(at(8), Ok(Some(Row { pad: 16, action: Action::Cleanup })));
     assert_eq!(at(6), Ok(None));
     let twice = [0x02, 0x05, 0x29, 0x00, 0x40];
     let at = |ret| section(&twice).handler2(SECTION, SECTION + twice.len(), ret);

@@ -167,7 +167,7 @@ fn value_text(value: usize) -> String {
 fn row_text(row: Option<Row>) -> String {
     match row {
         None => "none".to_string(),
-        Some(row) => format!("row {} {}", row.pad, row.action),
+        Some(row) => format!("row {} {}", row.pad, row.action as usize),
     }
 }
 

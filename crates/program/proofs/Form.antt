@@ -2,7 +2,9 @@
 use mathlib.Core.Path.{_≡_}
 use Prim.Native.Nat.{ℕ, _-_, _≤_, _<_}
 use native.Mathlib.Omega.{arith}
+use lib.Dec.{ltb}
 use borrow.Author.Tests.{lt-ltb, le-ltb, ne-eqb}
+use Rattle.failure.specs.Choice.{if_then_else_}
 use Rattle.program.specs.declared.decode.Rule.the-variants as rule
 use Rattle.program.specs.declared.decode.Op.the-variants.{Advance, Set}
 use Rattle.program.specs.declared.decode.One.the-variants as one
@@ -29,9 +31,10 @@ module _ (code : ℕ) where
 
   -- any byte above ca
   module _ (above : 0xca < code) where
-    pub form-unknown : code < 0xe0 → Unknown ≡ formOf code
+    -- none of the codes up to ca: only the test against e0 is left
+    left-over : formOf code ≡ (if ltb code 0xe0 then Unknown else Whole (Set (rule.Restore (code - 0xe0))))
     unfolding formOf
-    form-unknown h =
+    left-over =
         simp (
           ne-eqb code 0 (λ e. omega arith),
           le-ltb code 0x40 (omega arith),
@@ -48,27 +51,10 @@ module _ (code : ℕ) where
           ne-eqb code 0xc8 (λ e. omega arith),
           ne-eqb code 0xc9 (λ e. omega arith),
           ne-eqb code 0xca (λ e. omega arith),
-          lt-ltb code 0xe0 h,
         )
 
+    pub form-unknown : code < 0xe0 → Unknown ≡ formOf code
+    form-unknown h = rw left-over (rw (lt-ltb code 0xe0 h))
+
     pub form-restore : 0xe0 ≤ code → Whole (Set (rule.Restore (code - 0xe0))) ≡ formOf code
-    unfolding formOf
-    form-restore h =
-        simp (
-          ne-eqb code 0 (λ e. omega arith),
-          le-ltb code 0x40 (omega arith),
-          le-ltb code 0x80 (omega arith),
-          le-ltb code 0xc0 (omega arith),
-          ne-eqb code 0xc0 (λ e. omega arith),
-          ne-eqb code 0xc1 (λ e. omega arith),
-          ne-eqb code 0xc2 (λ e. omega arith),
-          ne-eqb code 0xc3 (λ e. omega arith),
-          ne-eqb code 0xc4 (λ e. omega arith),
-          ne-eqb code 0xc5 (λ e. omega arith),
-          ne-eqb code 0xc6 (λ e. omega arith),
-          ne-eqb code 0xc7 (λ e. omega arith),
-          ne-eqb code 0xc8 (λ e. omega arith),
-          ne-eqb code 0xc9 (λ e. omega arith),
-          ne-eqb code 0xca (λ e. omega arith),
-          le-ltb code 0xe0 h,
-        )
+    form-restore h = rw left-over (rw (le-ltb code 0xe0 h))

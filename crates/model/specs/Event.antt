@@ -1,0 +1,188 @@
+-- The events of the call machine, the rules of each, and what each does (document 01, "Events").
+use mathlib.Core.Bool.{Bool, true, false, not, _&&_, _||_}
+use mathlib.Core.List.{List, [], _∷_}
+use mathlib.Core.Option.{Option, none, some}
+use Prim.Native.Nat.{ℕ, _-_, _^_}
+use lib.Dec.{eqb, leb, ltb}
+use lib.ListN.{length, set}
+use Rattle.failure.specs.Choice.{if_then_else_}
+use Rattle.failure.specs.Failure.{oneOf}
+use Rattle.arch.specs.Arch.{Arch, numbers}
+use Rattle.arch.specs.File.{sp, setSp, setPc, pcColumn}
+use Rattle.lookup.specs.Record.{holds}
+use Rattle.lookup.specs.Tables.{Entry, records, named}
+use Rattle.frame.specs.Layout.{Pair}
+use Rattle.model.specs.FrameStep.{maxFrames}
+use Rattle.model.specs.Machine.{Open, Machine, column, isRegister, value, address, inside, clear, written}
+use Rattle.model.specs.Described.{isSpilled, described}
+
+-- a record is named by its chunk and its index there; the numbers of an event are any
+pub data Event : Type 0 where
+  Call : (chunk index ret : ℕ) → Event
+  Spill : (reg slot : ℕ) → Event
+  Change : (reg value : ℕ) → Event
+  Reload : (reg : ℕ) → Event
+  Move : (sp : ℕ) → Event
+  Write : (address value : ℕ) → Event
+
+-- a call pushes its return address (x86-64), or leaves it in the return register (aarch64)
+unfoldable pub pushes : Arch → Bool
+pushes a = not (eqb (a .entrySlot) 0)
+
+-- the registers as a call leaves them: sp below the pushed address, or the return register set
+unfoldable pub calling : Arch → List ℕ → ℕ → List ℕ
+calling a file ret = if pushes a then setSp a file (sp a file - 8) else set file (a .ra) ret
+
+-- the kept file of a call: the registers with pc = ret, and the return register where it is not pushed
+unfoldable pub keptBy : Arch → List ℕ → ℕ → List ℕ
+keptBy a file ret = setPc (if pushes a then file else set file (a .ra) ret) ret
+
+-- the frame that a call opens: CFA = sp; (16, 1) is spilled where the call pushes
+unfoldable pub opening : Arch → List ℕ → Entry → ℕ → Open
+opening a file e ret =
+    record {
+      entry = e;
+      kept = keptBy a file ret;
+      cfa = sp a file;
+      spilled = if pushes a then record { reg = a .ra; slot = 1 } ∷ [] else [];
+    }
+
+-- ret is 0 with no frame open, else above 0, ret - 1 lying in the caller's record
+abbrev pub returns : List Open → ℕ → Bool
+returns [] ret = eqb ret 0
+returns (f ∷ fs) ret = ltb 0 ret && holds (f .entry .function) (ret - 1)
+
+-- a caller is described after this, its registers being the kept file, and its sp is below its own CFA
+abbrev pub leaves : Machine → List Open → List ℕ → ℕ → Bool
+leaves m [] kept ret = true
+leaves m (f ∷ fs) kept ret =
+    described (numbers (m .arch)) (m .section) f kept false (ret - 1) && ltb (sp (numbers (m .arch)) kept) (f .cfa)
+
+-- the rules of a call: ret; CFA above 0; ret below 2^48 (on x86-64 below 2^64, which its place in a record gives); the pushed address
+-- lies in the stack and meets no live slot; the caller; at most 1,024 frames
+unfoldable pub callAllowed : Machine → ℕ → Bool
+callAllowed m ret =
+    returns (m .frames) ret
+    && ltb 0 (sp (numbers (m .arch)) (m .registers))
+    && ltb ret (2 ^ numbers (m .arch) .addressBits)
+    && (not (pushes (numbers (m .arch))) || inside (m .stack) (address (sp (numbers (m .arch)) (m .registers)) 1))
+    && (not (pushes (numbers (m .arch))) || clear (address (sp (numbers (m .arch)) (m .registers)) 1) (m .frames))
+    && leaves m (m .frames) (keptBy (numbers (m .arch)) (m .registers) ret) ret
+    && ltb (length (m .frames)) maxFrames
+
+-- the machine after a call
+unfoldable pub entered : Machine → Entry → ℕ → Machine
+entered m e ret =
+    record {
+      arch = m .arch;
+      section = m .section;
+      registers = calling (numbers (m .arch)) (m .registers) ret;
+      stack =
+          if pushes (numbers (m .arch)) then written (m .stack) (address (sp (numbers (m .arch)) (m .registers)) 1) ret
+          else m .stack;
+      frames = opening (numbers (m .arch)) (m .registers) e ret ∷ m .frames;
+    }
+
+-- the rules of a spill: a register's number; it equals the kept one; neither sp nor already spilled; slot 1 to 65535; the place lies
+-- in the stack and meets no live slot
+unfoldable pub spillAllowed : Machine → Open → ℕ → ℕ → Bool
+spillAllowed m f reg slot =
+    isRegister (numbers (m .arch)) reg
+    && eqb (value (numbers (m .arch)) (m .registers) reg) (value (numbers (m .arch)) (f .kept) reg)
+    && not (eqb reg (numbers (m .arch) .sp))
+    && not (isSpilled (f .spilled) reg)
+    && leb 1 slot
+    && leb slot 65535
+    && inside (m .stack) (address (f .cfa) slot)
+    && clear (address (f .cfa) slot) (m .frames)
+
+-- the frame with one more pair
+abbrev pub spilling : Open → ℕ → ℕ → Open
+spilling f reg slot =
+    record { entry = f .entry; kept = f .kept; cfa = f .cfa; spilled = record { reg = reg; slot = slot } ∷ f .spilled }
+
+-- the rules of a change: a register's number and a value of 64 bits; not sp; not pc; a preserved register only while spilled
+unfoldable pub changeAllowed : Machine → Open → ℕ → ℕ → Bool
+changeAllowed m f reg v =
+    isRegister (numbers (m .arch)) reg
+    && ltb v (2 ^ 64)
+    && not (eqb reg (numbers (m .arch) .sp))
+    && not (eqb (column (numbers (m .arch)) reg) pcColumn)
+    && (not (oneOf reg (numbers (m .arch) .preserved)) || isSpilled (f .spilled) reg)
+
+-- the rules of a reload: a spilled register other than 16
+unfoldable pub reloadAllowed : Open → ℕ → Bool
+reloadAllowed f reg = isSpilled (f .spilled) reg && not (eqb reg 16)
+
+-- the pairs without a register's
+abbrev pub unspilled : List Pair → ℕ → List Pair
+unspilled [] reg = []
+unspilled (p ∷ ps) reg = if eqb (p .reg) reg then unspilled ps reg else p ∷ unspilled ps reg
+
+-- the frame whose pair of a register ended
+abbrev pub reloading : Open → ℕ → Open
+reloading f reg = record { entry = f .entry; kept = f .kept; cfa = f .cfa; spilled = unspilled (f .spilled) reg }
+
+-- the rules of a write: a value of 64 bits; 8 stack bytes that meet no live slot
+unfoldable pub writeAllowed : Machine → ℕ → ℕ → Bool
+writeAllowed m x v = ltb v (2 ^ 64) && inside (m .stack) x && clear x (m .frames)
+
+-- the machine with other registers, another stack, other frames
+abbrev pub withRegisters : Machine → List ℕ → Machine
+withRegisters m file =
+    record { arch = m .arch; section = m .section; registers = file; stack = m .stack; frames = m .frames }
+
+abbrev pub withWritten : Machine → ℕ → ℕ → Machine
+withWritten m x v =
+    record { arch = m .arch; section = m .section; registers = m .registers; stack = written (m .stack) x v; frames = m .frames }
+
+abbrev pub withFrames : Machine → List Open → Machine
+withFrames m fs = record { arch = m .arch; section = m .section; registers = m .registers; stack = m .stack; frames = fs }
+
+-- a call of a record of the section
+abbrev pub call : Machine → ℕ → Option Entry → Machine
+call m ret none = m
+call m ret (some e) = if callAllowed m ret then entered m e ret else m
+
+-- a spill, a change, a reload and a move of the innermost frame
+abbrev pub spill : Machine → ℕ → ℕ → List Open → Machine
+spill m reg slot [] = m
+spill m reg slot (f ∷ fs) =
+    if spillAllowed m f reg slot
+    then withFrames (withWritten m (address (f .cfa) slot) (value (numbers (m .arch)) (m .registers) reg)) (spilling f reg slot ∷ fs)
+    else m
+
+abbrev pub change : Machine → ℕ → ℕ → List Open → Machine
+change m reg v [] = m
+change m reg v (f ∷ fs) =
+    if changeAllowed m f reg v then withRegisters m (set (m .registers) (column (numbers (m .arch)) reg) v) else m
+
+abbrev pub reload : Machine → ℕ → List Open → Machine
+reload m reg [] = m
+reload m reg (f ∷ fs) =
+    if reloadAllowed f reg
+    then withFrames
+    (withRegisters m (set (m .registers) (column (numbers (m .arch)) reg) (value (numbers (m .arch)) (f .kept) reg)))
+    (reloading f reg ∷ fs)
+    else m
+
+abbrev pub move : Machine → ℕ → List Open → Machine
+move m to [] = m
+move m to (f ∷ fs) = if leb to (f .cfa) then withRegisters m (setSp (numbers (m .arch)) (m .registers) to) else m
+
+abbrev pub write : Machine → ℕ → ℕ → Machine
+write m x v = if writeAllowed m x v then withWritten m x v else m
+
+-- an event; one against the rules leaves the machine as it was
+abbrev pub step : Machine → Event → Machine
+step m (Call chunk index ret) = call m ret (named chunk index (records (m .section .bytes) (m .section .base) (m .arch)))
+step m (Spill reg slot) = spill m reg slot (m .frames)
+step m (Change reg v) = change m reg v (m .frames)
+step m (Reload reg) = reload m reg (m .frames)
+step m (Move to) = move m to (m .frames)
+step m (Write x v) = write m x v
+
+-- a list of events
+abbrev pub steps : Machine → List Event → Machine
+steps m [] = m
+steps m (e ∷ es) = steps (step m e) es

@@ -1,0 +1,78 @@
+-- What a throw and its sweep calls must give, computed from the machine's frames and their rows alone.
+use mathlib.Core.Bool.{Bool}
+use mathlib.Core.List.{List, [], _∷_, map}
+use Prim.Native.Nat.{ℕ, zero, suc, _+_, _%_, _^_}
+use lib.Dec.{eqb}
+use Rattle.failure.specs.Choice.{if_then_else_}
+use Rattle.mem.specs.Memory.{Region}
+use Rattle.arch.specs.Arch.{Arch, numbers}
+use Rattle.arch.specs.File.{sp, pc}
+use Rattle.rows.specs.Row.{Found, None, Pad, cleanup, catch}
+use Rattle.model.specs.Search.{Searched, Chosen, Stopped, Ended}
+use Rattle.model.specs.Machine.{Machine, value}
+use Rattle.model.specs.Throw.{Throw, Standing, framesAt, recordOf, rowOf}
+
+-- a landing, as it is compared: the frame's number, and sp, pc and preserved registers at the pad
+pub record Landing : Type 0 where
+  pub number : ℕ
+  pub sp : ℕ
+  pub pc : ℕ
+  pub preserved : List ℕ
+
+-- a frame's landing: sp and preserved registers as at its call, pc its record's start + pad modulo 2^64
+unfoldable pub landingOf : Arch → ℕ → Standing → ℕ → Landing
+landingOf a n s pad =
+    record {
+      number = n;
+      sp = sp a (s .file);
+      pc = (recordOf s .start + pad) % 2 ^ 64;
+      preserved = map (value a (s .file)) (a .preserved);
+    }
+
+-- what the frames from number n on say to a search: the first catch, by its number and sp; 3 for a terminate row before any catch; 5
+-- where there is neither
+abbrev pub outcomeBy : Arch → ℕ → Standing → Found → Searched → Searched
+outcomeBy a n s None rest = rest
+outcomeBy a n s (Pad pad action) rest =
+    if eqb action cleanup then rest else if eqb action catch then Chosen n (sp a (s .file)) else Stopped
+
+abbrev pub outcomeFrom : Arch → Region → ℕ → List Standing → Searched
+outcomeFrom a section n [] = Ended
+outcomeFrom a section n (s ∷ ss) = outcomeBy a n s (rowOf a section s) (outcomeFrom a section (n + 1) ss)
+
+-- the landings of the frames from number n on, up to the first catch: those with a cleanup row, innermost first, then the catch
+abbrev pub landingsBy : Arch → ℕ → Standing → Found → List Landing → List Landing
+landingsBy a n s None rest = rest
+landingsBy a n s (Pad pad action) rest =
+    if eqb action cleanup then landingOf a n s pad ∷ rest
+    else if eqb action catch then landingOf a n s pad ∷ []
+    else []
+
+abbrev pub landingsFrom : Arch → Region → ℕ → List Standing → List Landing
+landingsFrom a section n [] = []
+landingsFrom a section n (s ∷ ss) = landingsBy a n s (rowOf a section s) (landingsFrom a section (n + 1) ss)
+
+-- landings are due only where a catch was chosen
+abbrev pub dueBy : Searched → List Landing → List Landing
+dueBy (Chosen n sp) ls = ls
+dueBy Stopped ls = []
+dueBy Ended ls = []
+
+-- what the throw must answer
+unfoldable pub outcome : Machine → Throw → Searched
+outcome m t = outcomeFrom (numbers (m .arch)) (m .section) 0 (framesAt m t)
+
+-- the landings that are due after it
+unfoldable pub due : Machine → Throw → List Landing
+due m t = dueBy (outcome m t) (landingsFrom (numbers (m .arch)) (m .section) 0 (framesAt m t))
+
+-- an answer of a sweep call, as it is compared
+pub data Given : Type 0 where
+  Landed : Landing → Given
+  Fatal Finished : Given
+
+-- the first n answers: the landings, then finished for ever
+abbrev pub firstOf : ℕ → List Landing → List Given
+firstOf zero ls = []
+firstOf (suc n) [] = Finished ∷ firstOf n []
+firstOf (suc n) (l ∷ ls) = Landed l ∷ firstOf n ls

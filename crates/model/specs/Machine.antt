@@ -1,0 +1,100 @@
+-- The call machine (document 01, "Walk, throw and call machine"): an architecture, a section, registers, a stack and open frames.
+use mathlib.Core.Bool.{Bool, true, not, _&&_}
+use mathlib.Core.List.{List, [], _∷_, _++_}
+use mathlib.Core.Path.{_≡_}
+use Prim.Native.Nat.{ℕ, zero, suc, _+_, _-_, _*_, _/_, _%_, _^_, _<_}
+use lib.Dec.{ltb}
+use lib.ListN.{length, getD, take, drop}
+use Rattle.failure.specs.Outcome.{Outcome, Refused, Answer}
+use Rattle.mem.specs.Memory.{Region, Memory, Lent, Bytes, size}
+use Rattle.mem.specs.Opening.{opens}
+use Rattle.mem.specs.Place.{holds}
+use Rattle.arch.specs.Arch.{Arch, numbers, isKnown}
+use Rattle.arch.specs.File as File
+use Rattle.arch.specs.File.{columnOf}
+use Rattle.lookup.specs.Tables.{Entry}
+use Rattle.frame.specs.Layout.{Pair}
+
+-- an open frame: its record (one of the section's), its kept file, its CFA, and its spilled pairs
+pub record Open : Type 0 where
+  pub entry : Entry
+  pub kept : List ℕ
+  pub cfa : ℕ
+  pub spilled : List Pair
+
+pub record Machine : Type 0 where
+  pub arch : ℕ
+  pub section : Region
+  pub registers : List ℕ
+  pub stack : Region
+  -- the open frames, the innermost first
+  pub frames : List Open
+
+-- what the machine lends
+abbrev pub memory : Machine → Memory
+memory m = m .section ∷ m .stack ∷ []
+
+abbrev pub lentBy : Machine → Lent
+lentBy m = record { regions = memory m }
+
+-- fresh: no frame, any registers, any stack of an accepted opening, on architecture 1 or 2
+pub record Fresh (m : Machine) : Type 0 where
+  pub empty : m .frames ≡ []
+  -- a file's registers are numbers of 64 bits
+  pub columns : length (m .registers) ≡ File.columns
+  pub values : (k : ℕ) → getD (m .registers) k 0 < 2 ^ 64
+  pub accepted : opens (lentBy m) ≡ true
+  -- what is lent is bytes
+  pub bytes : Bytes (memory m)
+  pub known : isKnown (m .arch) ≡ true
+
+-- the column of a register; for other numbers 41, which no file has
+abbrev pub orNone : Outcome ℕ → ℕ
+orNone (Refused n) = File.columns
+orNone (Answer k) = k
+
+unfoldable pub column : Arch → ℕ → ℕ
+column a reg = orNone (columnOf a reg)
+
+-- a number is a register's
+unfoldable pub isRegister : Arch → ℕ → Bool
+isRegister a reg = ltb (column a reg) File.columns
+
+-- a register's value
+unfoldable pub value : Arch → List ℕ → ℕ → ℕ
+value a file reg = getD file (column a reg) 0
+
+-- the address of a slot, below a CFA
+abbrev pub address : ℕ → ℕ → ℕ
+address cfa slot = cfa - 8 * slot
+
+-- the 8 bytes at an address lie in a region
+unfoldable pub inside : Region → ℕ → Bool
+inside r x = holds (r .base) (size r) x 8
+
+-- the 8 bytes at two addresses share one
+unfoldable pub meet : ℕ → ℕ → Bool
+meet x y = ltb x (y + 8) && ltb y (x + 8)
+
+-- the 8 bytes at an address meet no slot of these pairs below a CFA
+abbrev pub clearOf : ℕ → ℕ → List Pair → Bool
+clearOf x cfa [] = true
+clearOf x cfa (p ∷ ps) = not (meet x (address cfa (p .slot))) && clearOf x cfa ps
+
+-- the 8 bytes at an address meet no live slot: none of a spilled pair of an open frame
+abbrev pub clear : ℕ → List Open → Bool
+clear x [] = true
+clear x (f ∷ fs) = clearOf x (f .cfa) (f .spilled) && clear x fs
+
+-- the n bytes of a number, the lowest first
+abbrev pub bytesFor : ℕ → ℕ → List ℕ
+bytesFor zero v = []
+bytesFor (suc n) v = v % 256 ∷ bytesFor n (v / 256)
+
+-- the bytes with the 8 from offset k on set to those of a number
+unfoldable pub put : List ℕ → ℕ → ℕ → List ℕ
+put bytes k v = take k bytes ++ (bytesFor 8 v ++ drop (k + 8) bytes)
+
+-- the region with a number written at an address
+unfoldable pub written : Region → ℕ → ℕ → Region
+written r x v = record { base = r .base; bytes = put (r .bytes) (x - r .base) v }

@@ -1,0 +1,47 @@
+-- The search phase of a throw (document 01, "Walk, throw and call machine").
+use mathlib.Core.Bool.{Bool}
+use mathlib.Core.List.{List}
+use Prim.Native.Nat.{ℕ, zero, suc}
+use lib.Dec.{eqb}
+use Rattle.failure.specs.Choice.{if_then_else_}
+use Rattle.failure.specs.Outcome.{Outcome, Refused, Answer, _>>=_}
+use Rattle.failure.specs.Failure.{TooManyFrames}
+use Rattle.mem.specs.Memory.{Memory}
+use Rattle.arch.specs.Arch.{Arch, numbers}
+use Rattle.arch.specs.File.{sp, pc}
+use Rattle.rows.specs.Row.{Found, None, Pad}
+use Rattle.personality.specs.Reason.{rowOf, handlerFound, fatalPhase1, continueUnwind, searchedCode}
+use Rattle.model.specs.FrameStep.{Frame, Step, End, Past, frameStep}
+
+-- what the search comes to: 6 chooses a frame by its number and sp, 3 stops it, and the end answers 5
+pub data Searched : Type 0 where
+  Chosen : (number sp : ℕ) → Searched
+  Stopped Ended : Searched
+
+-- the code of a row in the search phase: 8 for none or cleanup, 6 catch, 3 terminate
+abbrev pub searchCode : Found → ℕ
+searchCode None = continueUnwind
+searchCode (Pad pad action) = searchedCode action
+
+-- what a frame's code says; `rest` is what the frames after it come to
+abbrev pub byCode : Arch → Frame → ℕ → Outcome Searched → Outcome Searched
+byCode a f code rest =
+    if eqb code handlerFound then Answer (Chosen (f .number) (sp a (f .file)))
+    else if eqb code fatalPhase1 then Answer Stopped
+    else rest
+
+-- a frame after its step: its row is found, and its code followed
+abbrev pub searchAt : ℕ → Memory → Frame → (Frame → Outcome Searched) → Step → Outcome Searched
+searchAt arch m f rest End = Answer Ended
+searchAt arch m f rest (Past r next) = do
+  row ← rowOf (numbers arch) m (f .interrupted) r (pc (f .file))
+  byCode (numbers arch) f (searchCode row) (rest next)
+
+-- the search from a frame on, over at most n frames
+abbrev pub searchFrom : ℕ → ℕ → Memory → Frame → Outcome Searched
+searchFrom zero arch m f = Refused TooManyFrames
+searchFrom (suc n) arch m f = frameStep arch m f >>= searchAt arch m f (λ next. searchFrom n arch m next)
+
+-- the search from a frame on: after 1,024 frames the step itself ends or refuses
+unfoldable pub search : ℕ → Memory → Frame → Outcome Searched
+search arch m f = searchFrom 1025 arch m f

@@ -1,0 +1,99 @@
+-- A frame step of the unwinder goes from a described frame to its caller, and ends after the last. Assumes nothing.
+use mathlib.Core.Bool.{Bool, true, false, not, _&&_, _||_}
+use mathlib.Core.List.{List, [], _∷_}
+use mathlib.Core.Option.{Option, none, some}
+use mathlib.Core.Path.{_≡_, refl, sym, _∙_, ap, subst}
+use Prim.Native.Nat.{ℕ, _+_, _≤_, _<_}
+use native.Mathlib.Omega.{arith}
+use lib.Dec.{eqb, ltb}
+use lib.ListN.{getD}
+use borrow.Author.Tests.{eqb-true, eqb-false, eq-eqb, ne-eqb, lt-ltb, le-ltb}
+use Rattle.failure.specs.Choice.{if_then_else_}
+use Rattle.failure.specs.Outcome.{Outcome, Refused, Answer, _>>=_}
+use Rattle.failure.specs.Failure.{StackNotAdvancing}
+use Rattle.mem.specs.Memory.{Region, Memory}
+use Rattle.mem.specs.Opening.{opens}
+use Rattle.arch.specs.Arch.{Arch, numbers}
+use Rattle.arch.specs.File.{sp, pc}
+use Rattle.lookup.specs.declared.Record.{Record}
+use Rattle.lookup.specs.Record.{holds}
+use Rattle.lookup.specs.Lookup.{Found, lookup}
+use Rattle.lookup.specs.Sound.{sound}
+use Rattle.lookup.proofs.Sounds.{lookup-record}
+use Rattle.model.specs.FrameStep.{Frame, Step, End, Past, maxFrames, lookedUp, callerFile, notAdvancing, callerOf, past, pastFound, frameStep}
+use Rattle.model.specs.Machine.{Open}
+use Rattle.model.proofs.Chain.{FrameAt, Live, Agrees}
+
+-- a frame of the walk
+abbrev pub frame : ℕ → Bool → List ℕ → Frame
+frame n interrupted file = record { number = n; interrupted = interrupted; file = file }
+
+-- past a frame: its record, and its caller's file, which agrees with the kept one
+pub record Goes (arch : ℕ) (m : Memory) (n : ℕ) (interrupted : Bool) (file′ : List ℕ) (f : Open) : Type 0 where
+  pub next : List ℕ
+  pub steps : frameStep arch m (frame n interrupted file′) ≡ Answer (Past (f .entry .function) (frame (n + 1) false next))
+  pub agrees : Agrees (numbers arch) next (f .kept)
+
+-- sp rises, or is equal in frame 0
+advances : (a : Arch) (n : ℕ) (first : Bool) (file next : List ℕ) → (first ≡ true → n ≡ 0) → sp a file ≤ sp a next →
+    (first ≡ false → sp a file < sp a next) → notAdvancing a n file next ≡ false
+unfolding notAdvancing
+advances a n first file next zeroth atMost lower = go first refl
+  where
+    go : (t : Bool) → first ≡ t → notAdvancing a n file next ≡ false
+    go true e = rw (le-ltb (sp a next) (sp a file) atMost, eq-eqb n 0 (zeroth e))
+    go false e =
+        let less = lower e in
+        rw (le-ltb (sp a next) (sp a file) atMost, ne-eqb (sp a next) (sp a file) (λ p. omega arith)) (either (eqb n 0))
+      where
+        either : (t : Bool) → (not t && false) ≡ false
+        either true = refl
+        either false = refl
+
+module _ (arch : ℕ) (section stack : Region) (tables : sound (section .bytes) (section .base) arch) where
+  -- with the record found
+  goes-past :
+      (n : ℕ) (interrupted : Bool) (file file′ : List ℕ) (r : Record) (next : List ℕ) → pc file′ ≡ pc file →
+      callerFile (numbers arch) (section ∷ stack ∷ []) interrupted r (lookedUp interrupted (pc file)) file′ ≡ Answer next →
+      notAdvancing (numbers arch) n file′ next ≡ false →
+      past (numbers arch) (section ∷ stack ∷ []) (frame n interrupted file′) r ≡ Answer (Past r (frame (n + 1) false next))
+  unfolding past
+  goes-past n interrupted file file′ r next same is rises =
+      rw (
+        ap (λ (x : ℕ). callerFile (numbers arch) (section ∷ stack ∷ []) interrupted r (lookedUp interrupted x) file′) same,
+        is,
+        rises,
+      )
+
+  -- with what the tables say of the caller's file
+  goes :
+      (n : ℕ) (first interrupted : Bool) (file file′ : List ℕ) (f : Open) → n < maxFrames → (first ≡ true → n ≡ 0) →
+      FrameAt arch section first interrupted file f → Agrees (numbers arch) file′ file →
+      (next : List ℕ) →
+      callerFile (numbers arch) (section ∷ stack ∷ []) interrupted (f .entry .function) (lookedUp interrupted (pc file)) file′ ≡ Answer next →
+      Agrees (numbers arch) next (f .kept) → Goes arch (section ∷ stack ∷ []) n interrupted file′ f
+  unfolding frameStep
+  goes n first interrupted file file′ f few zeroth h g next is agrees =
+      let called : 0 < pc file′ = subst (λ (x : ℕ). 0 < x) (sym (g .pc)) (h .called) in
+      let rises : notAdvancing (numbers arch) n file′ next ≡ false =
+      advances (numbers arch) n first file′ next zeroth
+      (omega (arith, g .sp, agrees .sp, h .kept .keptSp, h .atMost))
+      (λ e. omega (arith, g .sp, agrees .sp, h .kept .keptSp, h .lower e)) in
+      record {
+        next = next;
+        steps =
+            rw (
+              ne-eqb (pc file′) 0 (λ e. omega arith),
+              lt-ltb n maxFrames few,
+              ap (λ (x : ℕ). lookup (section .bytes) (section .base) (lookedUp interrupted x) arch) (g .pc),
+              lookup-record (section .bytes) (section .base) arch tables (lookedUp interrupted (pc file)) (f .entry) (h .kept .isRecord) (h .held),
+            )
+            (goes-past n interrupted file file′ (f .entry .function) next (g .pc) is rises);
+        agrees = agrees;
+      }
+
+  -- pc 0 ends the walk
+  pub ends : (n : ℕ) (interrupted : Bool) (file file′ : List ℕ) → pc file ≡ 0 → Agrees (numbers arch) file′ file →
+      frameStep arch (section ∷ stack ∷ []) (frame n interrupted file′) ≡ Answer End
+  unfolding frameStep
+  ends n interrupted file file′ e g = rw (eq-eqb (pc file′) 0 (g .pc ∙ e))

@@ -1,0 +1,199 @@
+-- The cleanup phase gives the next landing that is due. Assumes nothing.
+use mathlib.Core.Bool.{Bool, true, false, _&&_}
+use mathlib.Core.List.{List, [], _∷_}
+use mathlib.Core.Logic.{_⊎_, inl, inr}
+use mathlib.Core.Path.{_≡_, refl, sym, _∙_, ap, subst}
+use Prim.Native.Nat.{ℕ, zero, suc, _+_, _≤_, _<_}
+use native.Mathlib.Omega.{arith}
+use lib.Dec.{eqb, ltb}
+use lib.ListN.{length}
+use borrow.Author.Tests.{eq-eqb, lt-ltb, le-ltb}
+use Rattle.failure.specs.Choice.{if_then_else_}
+use Rattle.failure.specs.Outcome.{Outcome, Answer, _>>=_}
+use Rattle.mem.specs.Memory.{Region}
+use Rattle.mem.proofs.Tests.{both}
+use Rattle.arch.specs.Arch.{Arch, numbers}
+use Rattle.arch.specs.File.{sp, pc}
+use Rattle.rows.specs.Row.{Found, None, Pad, cleanup, catch}
+use Rattle.personality.specs.Reason as Reason
+use Rattle.model.specs.FrameStep.{Frame, maxFrames}
+use Rattle.model.specs.Search.{Searched, Chosen, Stopped, Ended}
+use Rattle.model.specs.Cleanup as Cleanup
+use Rattle.model.specs.Cleanup.{Choice, Swept, byRow, sweepAt, sweepFrom}
+use Rattle.model.specs.Machine.{Open}
+use Rattle.model.specs.Throw.{Standing, standing, rowOf}
+use Rattle.model.specs.Sound.{goodFrame, goodFrames}
+use Rattle.model.specs.Expected.{Landing, Landed, landingOf, outcomeBy, outcomeFrom, landingsBy, landingsFrom}
+use Rattle.model.specs.Demand.{given}
+use Rattle.model.proofs.Chain.{AllLive, Chain, Agrees}
+use Rattle.model.proofs.Stands.{frame, Goes}
+use Rattle.model.proofs.Walks.{Walks, stood}
+use Rattle.model.proofs.Landings.{Lands, lands}
+
+-- the chosen frame is not below the first that was looked at
+pub chosen-above : (a : Arch) (section : Region) (n : ℕ) (ss : List Standing) (k s : ℕ) → outcomeFrom a section n ss ≡ Chosen k s → n ≤ k
+chosen-above a section n [] k s e = let z : _≡_ {A = ℕ} 0 1 = cc in absurd (omega arith)
+chosen-above a section n (x ∷ ss) k s e = go (rowOf a section x) e (λ p. chosen-above a section (n + 1) ss k s p)
+  where
+    acts : (t u : Bool) → (if t then outcomeFrom a section (n + 1) ss else if u then Chosen n (sp a (x .file)) else Stopped) ≡ Chosen k s →
+        (outcomeFrom a section (n + 1) ss ≡ Chosen k s → n + 1 ≤ k) → n ≤ k
+    acts true u p later = let l = later p in omega arith
+    acts false true p later = let same : n ≡ k = cc in omega arith
+    acts false false p later = let z : _≡_ {A = ℕ} 0 1 = cc in absurd (omega arith)
+
+    go : (row : Found) → outcomeBy a n x row (outcomeFrom a section (n + 1) ss) ≡ Chosen k s →
+        (outcomeFrom a section (n + 1) ss ≡ Chosen k s → n + 1 ≤ k) → n ≤ k
+    go None p later = let l = later p in omega arith
+    go (Pad pad action) p later = acts (eqb action cleanup) (eqb action catch) p later
+
+module _ (arch : ℕ) (section stack : Region) where
+  -- where an unwinding stands: at the first of these frames, with these landings due up to the chosen one
+  pub record Stands (c : Choice) (n : ℕ) (first interrupted : Bool) (file file′ : List ℕ) (fs : List Open) (ls : List Landing) : Type 0 where
+    pub few : n + length fs ≤ maxFrames
+    pub zeroth : first ≡ true → n ≡ 0
+    pub chain : Chain arch section first interrupted file fs
+    pub live : AllLive (numbers arch) stack fs
+    pub good : goodFrames (numbers arch) section (standing interrupted file fs) ≡ true
+    pub agrees : Agrees (numbers arch) file′ file
+    pub chosen : outcomeFrom (numbers arch) section n (standing interrupted file fs) ≡ Chosen (c .number) (c .sp)
+    pub due : landingsFrom (numbers arch) section n (standing interrupted file fs) ≡ ls
+
+  -- at some frames, or past the chosen one
+  pub data At (c : Choice) (f : Frame) (ls : List Landing) : Type 0 where
+    Amid : (first : Bool) (file : List ℕ) (fs : List Open) →
+        Stands c (f .number) first (f .interrupted) file (f .file) fs ls → At c f ls
+    Over : c .number < f .number → ls ≡ [] → At c f ls
+
+  -- what a sweep comes to: the first landing that is due, and where the unwinding stands after it
+  pub record Sweeps (c : Choice) (o : Outcome Swept) (ls : List Landing) : Type 0 where
+    pub number : ℕ
+    pub pad : List ℕ
+    pub next : Frame
+    pub landing : Landing
+    pub rest : List Landing
+    pub is : o ≡ Answer (Cleanup.Landing number pad next)
+    pub first : ls ≡ landing ∷ rest
+    pub same : given (numbers arch) (Cleanup.Landing number pad next) ≡ Landed landing
+    pub after : At c next rest
+
+  -- a frame that stands, its caller's file, and what the sweep of the frames after it comes to
+  module _
+      (exception : ℕ) (c : Choice) (n : ℕ) (first interrupted : Bool) (file file′ next : List ℕ) (f : Open) (fs : List Open)
+      (ls : List Landing) (s : Stands c n first interrupted file file′ (f ∷ fs) ls) (agrees : Agrees (numbers arch) next (f .kept))
+      (o : Outcome Swept) where
+    -- the chosen frame is one of those after this one
+    abbrev Later : Type 0
+    Later = outcomeFrom (numbers arch) section (n + 1) (standing false (f .kept) fs) ≡ Chosen (c .number) (c .sp)
+
+    abbrev laterDue : List Landing
+    laterDue = landingsFrom (numbers arch) section (n + 1) (standing false (f .kept) fs)
+
+    stands : Later → Stands c (n + 1) false false (f .kept) next fs laterDue
+    stands e =
+        record {
+          few = omega (arith, s .few);
+          zeroth = λ p. absurd-bool p;
+          chain = s .chain .1;
+          live = s .live .1;
+          good = both (goodFrame (numbers arch) section (stood interrupted file f)) _ (s .good) .1;
+          agrees = agrees;
+          chosen = e;
+          due = refl;
+        }
+      where
+        absurd-bool : false ≡ true → n + 1 ≡ 0
+        absurd-bool p = let z : _≡_ {A = ℕ} 0 1 = cc in absurd (omega arith)
+
+    under : Later → ltb n (c .number) ≡ true
+    under e =
+        let l = chosen-above (numbers arch) section (n + 1) (standing false (f .kept) fs) (c .number) (c .sp) e in
+        lt-ltb n (c .number) (omega arith)
+
+    -- this frame lands
+    landed : (pad : ℕ) (rest : List Landing) → ls ≡ landingOf (numbers arch) n (stood interrupted file f) pad ∷ rest →
+        At c (frame (n + 1) false next) rest →
+        Sweeps c (Cleanup.land (numbers arch) exception (frame n interrupted file′) (f .entry .function) pad (frame (n + 1) false next)) ls
+    landed pad rest e after =
+        let l = lands arch exception n interrupted file file′ f pad (frame (n + 1) false next) (s .agrees) in
+        record {
+          number = n;
+          pad = l .there;
+          next = frame (n + 1) false next;
+          landing = landingOf (numbers arch) n (stood interrupted file f) pad;
+          rest = rest;
+          is = l .is;
+          first = e;
+          same = l .same;
+          after = after;
+        }
+
+    abbrev SweptBy : Found → Type 0
+    SweptBy row =
+        Sweeps c (byRow (numbers arch) exception c (frame n interrupted file′) (f .entry .function) (frame (n + 1) false next) o row) ls
+
+    -- by the action of its row
+    acts : (pad action : ℕ) (t u : Bool) → eqb action cleanup ≡ t → eqb action catch ≡ u →
+        outcomeBy (numbers arch) n (stood interrupted file f) (Pad pad action)
+        (outcomeFrom (numbers arch) section (n + 1) (standing false (f .kept) fs))
+        ≡ Chosen (c .number) (c .sp) →
+        landingsBy (numbers arch) n (stood interrupted file f) (Pad pad action) laterDue ≡ ls → SweptBy (Pad pad action)
+    acts pad action true u p q e d =
+        let later : Later = rw p at e in
+        let due = rw p at d in
+        rw (under later, p) (landed pad laterDue (sym due) (Amid false (f .kept) fs (stands later)))
+    acts pad action false true p q e d =
+        let this : Chosen n (sp (numbers arch) file) ≡ Chosen (c .number) (c .sp) = rw (p, q) at e in
+        let due = rw (p, q) at d in
+        let number : n ≡ c .number = cc in
+        let pointer : sp (numbers arch) file ≡ c .sp = cc in
+        rw (le-ltb n (c .number) (omega arith), q, eq-eqb (sp (numbers arch) file′) (c .sp) (s .agrees .sp ∙ pointer))
+        (landed pad [] (sym due) (Over (omega arith) refl))
+    acts pad action false false p q e d =
+        let none : Stopped ≡ Chosen (c .number) (c .sp) = rw (p, q) at e in
+        let z : _≡_ {A = ℕ} 0 1 = cc in absurd (omega arith)
+
+    -- by its row
+    by-row : (row : Found) → rowOf (numbers arch) section (stood interrupted file f) ≡ row → (Later → Sweeps c o laterDue) → SweptBy row
+    by-row None e rest =
+        let later : Later = rw e at (s .chosen) in
+        let due = rw e at (s .due) in
+        rw (under later) (subst (λ (k : List Landing). Sweeps c o k) due (rest later))
+    by-row (Pad pad action) e rest =
+        acts pad action (eqb action cleanup) (eqb action catch) refl refl (rw e at (s .chosen)) (rw e at (s .due))
+
+  module _ (w : Walks arch section stack) (exception : ℕ) (c : Choice) where
+    -- what the sweep of these frames comes to, from wherever it stands at the first of them
+    abbrev Rest : List Open → ℕ → Type 0
+    Rest fs fuel =
+        (n : ℕ) (first interrupted : Bool) (file file′ : List ℕ) (ls : List Landing) → Stands c n first interrupted file file′ fs ls →
+        Sweeps c (sweepFrom fuel arch (section ∷ stack ∷ []) exception c (frame n interrupted file′)) ls
+
+    -- past a frame
+    sweep-past :
+        (f : Open) (fs : List Open) (fuel n : ℕ) (first interrupted : Bool) (file file′ : List ℕ) (ls : List Landing) →
+        (s : Stands c n first interrupted file file′ (f ∷ fs) ls) → Goes arch (section ∷ stack ∷ []) n interrupted file′ f → Rest fs fuel →
+        Sweeps c (sweepFrom (suc fuel) arch (section ∷ stack ∷ []) exception c (frame n interrupted file′)) ls
+    sweep-past f fs fuel n first interrupted file file′ ls s g rest =
+        let good = both (goodFrame (numbers arch) section (stood interrupted file f)) _ (s .good) .0 in
+        let o = sweepFrom fuel arch (section ∷ stack ∷ []) exception c (frame (n + 1) false (g .next)) in
+        rw (
+          g .steps,
+          ap (λ (x : ℕ). Reason.rowOf (numbers arch) (section ∷ stack ∷ []) interrupted (f .entry .function) x) (s .agrees .pc),
+          w .row first interrupted file f (s .chain .0) good,
+        )
+        (by-row exception c n first interrupted file file′ (g .next) f fs ls s (g .agrees) o
+        (rowOf (numbers arch) section (stood interrupted file f)) refl
+        (λ later.
+        rest (n + 1) false false (f .kept) (g .next) _
+        (stands exception c n first interrupted file file′ (g .next) f fs ls s (g .agrees) o later)))
+
+    pub sweeps : (fs : List Open) (fuel : ℕ) → length fs < fuel → Rest fs fuel
+    sweeps fs zero enough n first interrupted file file′ ls s = absurd (omega arith)
+    sweeps [] (suc fuel) enough n first interrupted file file′ ls s =
+        let e = s .chosen in
+        let z : _≡_ {A = ℕ} 0 1 = cc in absurd (omega arith)
+    sweeps (f ∷ fs) (suc fuel) enough n first interrupted file file′ ls s =
+        let few = s .few in
+        sweep-past f fs fuel n first interrupted file file′ ls s
+        (w .goes n first interrupted file file′ f (omega arith) (s .zeroth) (s .chain .0) (s .live .0) (s .agrees))
+        (sweeps fs fuel (omega arith))

@@ -1,0 +1,153 @@
+-- The events Write and Spill keep the invariant. Assumes nothing.
+use mathlib.Core.Path.{_≡_, refl, sym, subst}
+use mathlib.Core.Bool.{Bool, true, false, not, or-true}
+use mathlib.Core.Logic.{inl, inr, ⊎-elim}
+use mathlib.Core.List.{List, [], _∷_, List·Memᴰ, List·Memᴰ·cases-cons}
+use Prim.Native.Nat.{ℕ, _^_, _<_}
+use lib.Dec.{eqb, leb, ltb}
+use borrow.Author.Tests.{eqb-true}
+use Rattle.mem.specs.Memory.{Region}
+use Rattle.arch.specs.Arch.{Arch, numbers}
+use Rattle.frame.specs.Layout.{Pair}
+use Rattle.model.specs.Machine.{Open, Machine, column, isRegister, value, address, inside, clear}
+use Rattle.model.specs.Described.{isSpilled}
+use Rattle.model.specs.Event.{spillAllowed, spilling, writeAllowed, withWritten, withFrames, spill, write}
+use Rattle.model.proofs.Chain.{Kept, Slot, Live, AllLive, Inner, Inv}
+use Rattle.model.proofs.Guard.{each}
+use Rattle.model.proofs.Slots.{written-holds, written-live, written-opens}
+
+-- a place that may be written: it lies in the stack and meets no live slot
+record Free (m : Machine) (x : ℕ) : Type 0 where
+  pub within : inside (m .stack) x ≡ true
+  pub free : clear x (m .frames) ≡ true
+
+-- what the rules of a write give
+write-rules : (m : Machine) (x v : ℕ) → writeAllowed m x v ≡ true → Free m x
+unfolding writeAllowed
+write-rules m x v e =
+    let (_, (within, (free, _))) = each (ltb v (2 ^ 64)) (inside (m .stack) x ∷ clear x (m .frames) ∷ []) e in
+    record { within = within; free = free }
+
+-- a number written into a free place
+written-keeps : (m : Machine) (x v : ℕ) → Free m x → Inv m → Inv (withWritten m x v)
+written-keeps m x v place inv =
+    record {
+      known = inv .known;
+      accepted = written-opens (m .section) (m .stack) x v (place .within) (inv .accepted);
+      bytes = inv .bytes;
+      wide = inv .wide;
+      values = inv .values;
+      few = inv .few;
+      live = written-live (numbers (m .arch)) (m .stack) x v (place .within) (m .frames) (place .free) (inv .live);
+      inner = inv .inner;
+    }
+
+-- the event Write
+pub write-keeps : (m : Machine) (x v : ℕ) → Inv m → Inv (write m x v)
+write-keeps m x v inv = go (writeAllowed m x v) refl
+  where
+    go : (t : Bool) → writeAllowed m x v ≡ t → Inv (write m x v)
+    go true e = rw e (written-keeps m x v (write-rules m x v e) inv)
+    go false e = rw e inv
+
+module _ (m : Machine) (f : Open) (reg slot : ℕ) where
+  -- what the rules of a spill give
+  record Spilled : Type 0 where
+    pub place : Free m (address (f .cfa) slot)
+    pub register : isRegister (numbers (m .arch)) reg ≡ true
+    pub same : value (numbers (m .arch)) (m .registers) reg ≡ value (numbers (m .arch)) (f .kept) reg
+
+  -- they give it
+  spill-rules : spillAllowed m f reg slot ≡ true → Spilled
+  unfolding spillAllowed
+  spill-rules e =
+      let a : Arch = numbers (m .arch) in
+      let x : ℕ = address (f .cfa) slot in
+      let place : List Bool = inside (m .stack) x ∷ clear x (m .frames) ∷ [] in
+      let alike : Bool = eqb (value a (m .registers) reg) (value a (f .kept) reg) in
+      let fresh : List Bool = not (eqb reg (a .sp)) ∷ not (isSpilled (f .spilled) reg) ∷ leb 1 slot ∷ leb slot 65535 ∷ place in
+      let (register, (same, (_, (_, (_, (_, (within, (free, _)))))))) = each (isRegister a reg) (alike ∷ fresh) e in
+      record {
+        place = record { within = within; free = free };
+        register = register;
+        same = eqb-true (value a (m .registers) reg) (value a (f .kept) reg) same;
+      }
+
+-- the pair that a spill adds
+abbrev new : ℕ → ℕ → Pair
+new reg slot = record { reg = reg; slot = slot }
+
+module _ (f : Open) (reg slot : ℕ) where
+  -- what holds of it and of each pair before holds of them all
+  with-new :
+      (P : Pair → Type 0) → P (new reg slot) → ((p : Pair) → List·Memᴰ p (f .spilled) → P p) →
+      (p : Pair) → List·Memᴰ p (new reg slot ∷ f .spilled) → P p
+  with-new P first rest p i =
+      ⊎-elim (λ (e : p ≡ new reg slot). subst P (sym e) first) (λ (j : List·Memᴰ p (f .spilled)). rest p j) (List·Memᴰ·cases-cons i)
+
+  -- the frame with that pair
+  spilling-kept :
+      (arch : ℕ) (section : Region) → isRegister (numbers arch) reg ≡ true → Kept arch section f → Kept arch section (spilling f reg slot)
+  spilling-kept arch section known k =
+      record {
+        isRecord = k .isRecord;
+        wide = k .wide;
+        below = k .below;
+        keptSp = k .keptSp;
+        above = k .above;
+        returns =
+            ⊎-elim (λ (s : isSpilled (f .spilled) (numbers arch .ra) ≡ true). inl (rw s (or-true (eqb reg (numbers arch .ra)))))
+            inr (k .returns);
+        keptPc = k .keptPc;
+        registers = with-new (λ (p : Pair). isRegister (numbers arch) (p .reg) ≡ true) known (k .registers);
+      }
+
+  -- its live slots
+  spilling-live : (a : Arch) (stack : Region) → Slot a stack f (new reg slot) → Live a stack f → Live a stack (spilling f reg slot)
+  spilling-live a stack first rest p i =
+      let s = with-new (λ (q : Pair). Slot a stack f q) first rest p i in
+      record { within = s .within; holding = s .holding }
+
+  -- a register that was written into its slot is spilled
+  spilling-keeps :
+      (m : Machine) (fs : List Open) → m .frames ≡ f ∷ fs → isRegister (numbers (m .arch)) reg ≡ true →
+      Slot (numbers (m .arch)) (m .stack) f (new reg slot) → Inv m → Inv (withFrames m (spilling f reg slot ∷ fs))
+  spilling-keeps m fs e known first inv =
+      let (here, rest) : AllLive (numbers (m .arch)) (m .stack) (f ∷ fs) = rw e at (inv .live) in
+      let (kept, chain) : Inner (m .arch) (m .section) (m .registers) (f ∷ fs) = rw e at (inv .inner) in
+      record {
+        known = inv .known;
+        accepted = inv .accepted;
+        bytes = inv .bytes;
+        wide = inv .wide;
+        values = inv .values;
+        few = rw e at (inv .few);
+        live = (spilling-live (numbers (m .arch)) (m .stack) first here, rest);
+        inner = (spilling-kept (m .arch) (m .section) known kept, chain);
+      }
+
+-- a register's value is a number of 64 bits
+value-below : (m : Machine) (reg : ℕ) → Inv m → value (numbers (m .arch)) (m .registers) reg < 2 ^ 64
+unfolding value
+value-below m reg inv = inv .values (column (numbers (m .arch)) reg)
+
+-- the event Spill
+pub spill-keeps : (m : Machine) (reg slot : ℕ) → Inv m → Inv (spill m reg slot (m .frames))
+spill-keeps m reg slot inv = go (m .frames) refl
+  where
+    allowed : (f : Open) (fs : List Open) → m .frames ≡ f ∷ fs → Spilled m f reg slot →
+        Inv (withFrames (withWritten m (address (f .cfa) slot) (value (numbers (m .arch)) (m .registers) reg)) (spilling f reg slot ∷ fs))
+    allowed f fs e s =
+        let x : ℕ = address (f .cfa) slot in
+        let v : ℕ = value (numbers (m .arch)) (m .registers) reg in
+        spilling-keeps f reg slot (withWritten m x v) fs e (s .register)
+        (written-holds (numbers (m .arch)) (m .stack) f (new reg slot) v (s .place .within) (value-below m reg inv) (s .same))
+        (written-keeps m x v (s .place) inv)
+
+    try : (f : Open) (fs : List Open) → m .frames ≡ f ∷ fs → (t : Bool) → spillAllowed m f reg slot ≡ t → Inv (spill m reg slot (f ∷ fs))
+    try f fs e true r = rw r (allowed f fs e (spill-rules m f reg slot r))
+    try f fs e false r = rw r inv
+
+    go : (fs : List Open) → m .frames ≡ fs → Inv (spill m reg slot fs)
+    go [] e = inv
+    go (f ∷ fs) e = try f fs e (spillAllowed m f reg slot) refl

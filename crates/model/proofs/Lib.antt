@@ -9,9 +9,15 @@ pub mod Restored
 pub mod Loaded
 pub mod Fitting
 pub mod Caller
+pub mod InSection
+pub mod After
+pub mod Rows1
+pub mod Rows2
+pub mod Rows
 pub mod Stands
 pub mod Walks
 pub mod Searching
 pub mod Landings
 pub mod Sweeping
 pub mod Calls
+pub mod Theorem

@@ -66,7 +66,7 @@ module _ (arch : ℕ) (section stack : Region) (tables : sound (section .bytes) 
       )
 
   -- with what the tables say of the caller's file
-  goes :
+  pub goes :
       (n : ℕ) (first interrupted : Bool) (file file′ : List ℕ) (f : Open) → n < maxFrames → (first ≡ true → n ≡ 0) →
       FrameAt arch section first interrupted file f → Agrees (numbers arch) file′ file →
       (next : List ℕ) →

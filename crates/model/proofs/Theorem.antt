@@ -1,0 +1,151 @@
+-- Demand 3: every landing, and no other. Assumes nothing.
+use mathlib.Core.Bool.{Bool, true, false}
+use mathlib.Core.List.{List, [], _∷_}
+use mathlib.Core.Path.{_≡_, refl, sym, _∙_, ap, subst}
+use Prim.Native.Nat.{ℕ, _+_, _≤_, _<_}
+use native.Mathlib.Omega.{arith}
+use lib.Dec.{ltb}
+use lib.ListN.{length, getD, length-set}
+use lib.Seq.{getD-set-same, getD-set-other}
+use borrow.Author.Tests.{ltb-true}
+use Rattle.failure.specs.Outcome.{Outcome, Answer}
+use Rattle.arch.specs.Arch.{Arch, numbers}
+use Rattle.arch.specs.File.{columns, pcColumn, sp, pc}
+use Rattle.lookup.specs.Record.{holds}
+use Rattle.lookup.specs.Sound.{sound}
+use Rattle.model.specs.declared.Unwinding.{Unwinding}
+use Rattle.model.specs.FrameStep.{maxFrames, lookedUp}
+use Rattle.model.specs.Search.{Searched, Chosen, Stopped, Ended, search}
+use Rattle.model.specs.Unwinding.{frame0, raise, raised}
+use Rattle.model.specs.Machine.{Open, Machine, Fresh}
+use Rattle.model.specs.Described.{described}
+use Rattle.model.specs.Event.{Event, steps}
+use Rattle.model.specs.Throw.{Throw, thrown, throwable, throwAllowed, framesAt}
+use Rattle.model.specs.Sound.{Sound}
+use Rattle.model.specs.Expected.{outcome, due, dueBy, landingsFrom, firstOf}
+use Rattle.model.specs.Demand.{SweepCall, Admissible, RegularServed, answers, raisedBy, unwindingOf, EveryLanding, Demand3}
+use Rattle.model.proofs.Chain.{Inner, FrameAt, Chain, Inv, Agrees}
+use Rattle.model.proofs.Guard.{each}
+use Rattle.model.proofs.Files.{pointers}
+use Rattle.model.proofs.InSection.{run-in-section}
+use Rattle.model.proofs.Caller.{caller-agrees}
+use Rattle.model.proofs.Rows.{row-found}
+use Rattle.model.proofs.Stands.{goes, ends}
+use Rattle.model.proofs.Walks.{Walks}
+use Rattle.model.proofs.Searching.{searches}
+use Rattle.model.proofs.Sweeping.{Amid}
+use Rattle.model.proofs.Calls.{opened-known, Due, None, Some, calls}
+
+module _ (m : Machine) (i : Inv m) where
+  -- tables and memory serve the phases
+  walks : sound (m .section .bytes) (m .section .base) (m .arch) → Walks (m .arch) (m .section) (m .stack)
+  walks s =
+      record {
+        goes =
+            λ n first interrupted file file′ f few zeroth h live agrees.
+            let c =
+            caller-agrees (m .arch) (m .section) (m .stack) first interrupted file file′ f (i .accepted) h live agrees
+            (λ v off. run-in-section (m .arch) (m .section) (m .stack) (numbers (m .arch)) (f .entry) (i .accepted) (h .kept .isRecord) off) in
+            goes (m .arch) (m .section) (m .stack) s n first interrupted file file′ f few zeroth h agrees (c .next) (c .is) (c .agrees);
+        ends = ends (m .arch) (m .section) (m .stack) s;
+        row = λ first interrupted file f h good. row-found (m .arch) (m .section) (m .stack) first interrupted file f (i .accepted) (i .bytes) s h good;
+      }
+
+  -- the registers at a throw are the machine's, with its pc
+  thrown-pc : (t : Throw) → pc (thrown m t) ≡ t .pc
+  thrown-pc t = let wide = i .wide in getD-set-same (m .registers) pcColumn (t .pc) 0 (omega arith)
+
+  thrown-sp : (t : Throw) → sp (numbers (m .arch)) (thrown m t) ≡ sp (numbers (m .arch)) (m .registers)
+  thrown-sp t =
+      let below = pointers (m .arch) .spBelow in
+      getD-set-other (m .registers) pcColumn (numbers (m .arch) .sp) (t .pc) 0 (λ e. omega arith)
+
+  -- the frames at a throw within the rules
+  thrown-chain : (t : Throw) → throwAllowed m t ≡ true → Chain (m .arch) (m .section) true (t .interrupted) (thrown m t) (m .frames)
+  unfolding throwAllowed
+  thrown-chain t = go (m .frames) (i .inner)
+    where
+      go : (fs : List Open) → Inner (m .arch) (m .section) (m .registers) fs → throwable m t fs ≡ true →
+          Chain (m .arch) (m .section) true (t .interrupted) (thrown m t) fs
+      go [] inner e = let z : _≡_ {A = ℕ} 0 1 = cc in absurd (omega arith)
+      go (f ∷ fs) inner e =
+          let (above, (held, (fits, _))) =
+          each (ltb 0 (t .pc))
+          (holds (f .entry .function) (lookedUp (t .interrupted) (t .pc))
+          ∷ described (numbers (m .arch)) (m .section) f (thrown m t) (t .interrupted) (lookedUp (t .interrupted) (t .pc)) ∷ [])
+          e in
+          let here : pc (thrown m t) ≡ t .pc = thrown-pc t in (
+            record {
+              kept = inner .0;
+              called = subst (λ (x : ℕ). 0 < x) (sym here) (ltb-true 0 (t .pc) above);
+              held = subst (λ (x : ℕ). holds (f .entry .function) (lookedUp (t .interrupted) x) ≡ true) (sym here) held;
+              fits =
+                  subst
+                  (λ (x : ℕ).
+                  described (numbers (m .arch)) (m .section) f (thrown m t) (t .interrupted) (lookedUp (t .interrupted) x) ≡ true)
+                  (sym here) fits;
+              atMost = subst (λ (x : ℕ). x ≤ f .cfa) (sym (thrown-sp t)) (inner .1 .0);
+              lower = λ p. let z : _≡_ {A = ℕ} 0 1 = cc in absurd (omega arith);
+            },
+            inner .1 .1,
+          )
+
+  -- a file agrees with itself
+  itself : (t : Throw) → Agrees (numbers (m .arch)) (thrown m t) (thrown m t)
+  itself t =
+      record {
+        wide = length-set (m .registers) pcColumn (t .pc) ∙ i .wide;
+        sp = refl;
+        pc = refl;
+        preserved = λ reg e. refl;
+      }
+
+  module _ (t : Throw) (allowed : throwAllowed m t ≡ true) (s : Sound m t) where
+    -- the throw
+    throws : raisedBy m t ≡ Answer (outcome m t)
+    unfolding raisedBy raise search outcome
+    throws =
+        let few = i .few in
+        opened-known m _ (i .accepted) (i .known) ∙
+        searches (m .arch) (m .section) (m .stack) (walks (s .tables)) (m .frames) 1025 0 true (t .interrupted) (thrown m t) (thrown m t)
+        (omega arith) (omega arith) (λ e. refl) (thrown-chain t allowed) (i .live) (s .frames) (itself t)
+
+    -- what is due after it
+    starts : (exception : ℕ) → Due m (unwindingOf m t exception) (due m t)
+    unfolding unwindingOf due outcome
+    starts exception = rw throws (go (outcome m t) refl)
+      where
+        go : (o : Searched) → outcome m t ≡ o →
+            Due m (raised (frame0 (m .registers) (t .pc) (t .interrupted)) exception (Answer o))
+            (dueBy o (landingsFrom (numbers (m .arch)) (m .section) 0 (framesAt m t)))
+        go (Chosen k p) e =
+            Some refl
+            (Amid true (thrown m t) (m .frames)
+            (record {
+              few = omega (arith, i .few);
+              zeroth = λ p. refl;
+              chain = thrown-chain t allowed;
+              live = i .live;
+              good = s .frames;
+              agrees = itself t;
+              chosen = e;
+              due = refl;
+            }))
+        go Stopped e = None refl refl
+        go Ended e = None refl refl
+
+-- every machine that the invariant holds of
+pub every-landing : (m : Machine) → Inv m → (t : Throw) → throwAllowed m t ≡ true → Sound m t → (exception : ℕ) → EveryLanding m t exception
+every-landing m i t allowed s exception =
+    record {
+      throws = throws m i t allowed s;
+      served = λ cs a. all cs a .0;
+      lands = λ cs a. all cs a .1;
+    }
+  where
+    all : (cs : List SweepCall) → Admissible m (unwindingOf m t exception) cs →
+        RegularServed m (unwindingOf m t exception) cs
+        × (answers (numbers (m .arch)) cs ≡ firstOf (length (answers (numbers (m .arch)) cs)) (due m t))
+    all cs a =
+        calls m (i .accepted) (i .known) (walks m i (s .tables)) cs (unwindingOf m t exception) (due m t)
+        (starts m i t allowed s exception) a

@@ -1,10 +1,20 @@
--- Laws of the model, each file named after what it is about.
-pub mod Chain
+-- Demand 3, from its parts: files and memory; the invariant that every event keeps; what the tables say of a described frame; the
+-- phases and the calls; the theorem.
+pub mod Theorem
 pub mod Guard
+pub mod Allowed
 pub mod Files
+pub mod Registers
 pub mod Store
+pub mod Chain
 pub mod Slots
+pub mod Fresh
 pub mod Writes
+pub mod Changes
+pub mod Calling
+pub mod Entering
+pub mod Steps
+pub mod Unmoved
 pub mod Restored
 pub mod Loaded
 pub mod Fitting
@@ -20,4 +30,3 @@ pub mod Searching
 pub mod Landings
 pub mod Sweeping
 pub mod Calls
-pub mod Theorem

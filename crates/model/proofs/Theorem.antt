@@ -34,6 +34,7 @@ use Rattle.model.proofs.Stands.{goes, ends}
 use Rattle.model.proofs.Walks.{Walks}
 use Rattle.model.proofs.Searching.{searches}
 use Rattle.model.proofs.Sweeping.{Amid}
+use Rattle.model.proofs.Steps.{steps-inv}
 use Rattle.model.proofs.Calls.{opened-known, Due, None, Some, calls}
 
 module _ (m : Machine) (i : Inv m) where
@@ -149,3 +150,7 @@ every-landing m i t allowed s exception =
     all cs a =
         calls m (i .accepted) (i .known) (walks m i (s .tables)) cs (unwindingOf m t exception) (due m t)
         (starts m i t allowed s exception) a
+
+-- every landing, and no other
+pub demand3 : Demand3
+demand3 m fresh es t allowed s exception = every-landing (steps m es) (steps-inv m fresh es) t allowed s exception

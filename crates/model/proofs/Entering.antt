@@ -1,0 +1,166 @@
+-- A call keeps the invariant. Assumes nothing.
+use mathlib.Core.Path.{_≡_, refl, sym, _∙_, ap, subst}
+use mathlib.Core.Bool.{Bool, true, false, not, _||_}
+use mathlib.Core.List.{List, [], _∷_, List·Memᴰ, List·Memᴰ·eq-of-singleton, List·Memᴰ·not-nil}
+use mathlib.Core.Logic.{_⊎_, inl, inr}
+use mathlib.Core.Option.{Option, none, some}
+use Prim.Native.Nat.{ℕ, _-_, _^_, _<_}
+use native.Mathlib.Nat.{mod-eq-of-lt}
+use native.Mathlib.Omega.{arith}
+use lib.Dec.{ltb}
+use lib.ListN.{length}
+use borrow.Author.Tests.{eqb-true, eq-eqb, ltb-true}
+use Rattle.failure.specs.Choice.{if_then_else_}
+use Rattle.failure.specs.Failure.{oneOf}
+use Rattle.mem.specs.Memory.{Region}
+use Rattle.mem.specs.Opening.{opens}
+use Rattle.mem.proofs.Tests.{both}
+use Rattle.arch.specs.Arch.{Arch, numbers}
+use Rattle.arch.specs.File.{sp, pc}
+use Rattle.lookup.specs.Record.{holds}
+use Rattle.lookup.specs.Tables.{Entry, records}
+use Rattle.lookup.specs.Sound.{_∈_}
+use Rattle.frame.specs.Layout.{Pair}
+use Rattle.model.specs.FrameStep.{maxFrames}
+use Rattle.model.specs.Machine.{Open, Machine, isRegister, address, inside, clear, written}
+use Rattle.model.specs.Described.{isSpilled, described}
+use Rattle.model.specs.Event.{pushes, keptBy, opening, returns, leaves, callAllowed, entered, call}
+use Rattle.model.proofs.Chain.{Kept, Slot, Live, AllLive, Chain, Inner, Inv}
+use Rattle.model.proofs.Guard.{each}
+use Rattle.model.proofs.Allowed.{asked, by-test, if-allowed}
+use Rattle.model.proofs.Registers.{Returning, pushed, left, returning, bounds, Good}
+use Rattle.model.proofs.Calling.{calling-sp, kept-sp, calling-good, kept-good, kept-pc, kept-ra}
+use Rattle.model.proofs.Slots.{written-holds, written-live, written-opens}
+
+-- the callers of the frame that a call opens are a chain from its kept file on
+callers :
+    (m : Machine) (kept : List ℕ) (ret : ℕ) → pc kept ≡ ret → (fs : List Open) → returns fs ret ≡ true → leaves m fs kept ret ≡ true →
+    Inner (m .arch) (m .section) (m .registers) fs → Chain (m .arch) (m .section) false false kept fs
+callers m kept ret is [] back out inner = is ∙ eqb-true ret 0 back
+callers m kept ret is (f ∷ fs) back out inner =
+    let (above, held) = both (ltb 0 ret) (holds (f .entry .function) (ret - 1)) back in
+    let (fits, low) =
+    both (described (numbers (m .arch)) (m .section) f kept false (ret - 1)) (ltb (sp (numbers (m .arch)) kept) (f .cfa)) out in
+    let lower : sp (numbers (m .arch)) kept < f .cfa = ltb-true (sp (numbers (m .arch)) kept) (f .cfa) low in (
+      record {
+        kept = inner .0;
+        called = rw is (ltb-true 0 ret above);
+        held = rw is held;
+        fits = rw is fits;
+        atMost = omega arith;
+        lower = λ e. lower;
+      },
+      inner .1 .1,
+    )
+
+-- what a call spills: the return register where it pushes
+pushed-pair : (t : Bool) (q p : Pair) → List·Memᴰ p (if t then q ∷ [] else []) → (t ≡ true) × (p ≡ q)
+pushed-pair true q p j = (refl, List·Memᴰ·eq-of-singleton j)
+pushed-pair false q p j = absurd (List·Memᴰ·not-nil j)
+
+module _ (m : Machine) (e : Entry) (ret : ℕ) (i : Inv m) where
+  abbrev a : Arch
+  a = numbers (m .arch)
+
+  abbrev file : List ℕ
+  file = m .registers
+
+  -- the registers are a file
+  abbrev good : Good (m .registers)
+  good = record { wide = i .wide; below = i .values }
+
+  -- where a call pushes
+  abbrev top : ℕ
+  top = address (sp a file) 1
+
+  -- the pair that it spills then
+  abbrev pair : Pair
+  pair = record { reg = a .ra; slot = 1 }
+
+  module _ (fits : ret < 2 ^ a .addressBits) where
+    -- ret is a number of 64 bits
+    small : ret < 2 ^ 64
+    small = omega (arith, fits, bounds (m .arch) .address)
+
+    -- the frame that a call opens
+    opening-kept :
+        e ∈ records (m .section .bytes) (m .section .base) (m .arch) → 0 < sp a file → Kept (m .arch) (m .section) (opening a file e ret)
+    unfolding opening
+    opening-kept isRecord above =
+        let kept = kept-good (m .arch) file good ret small in
+        let back = kept-pc (m .arch) file good ret small in
+        record {
+          isRecord = isRecord;
+          wide = kept .wide;
+          below = kept .below;
+          keptSp = kept-sp (m .arch) file good ret;
+          above = above;
+          returns = returned (returning (m .arch));
+          keptPc = rw (kept-ra (m .arch) file good ret small, back) (mod-eq-of-lt fits);
+          registers = λ p j.
+              ap (λ (q : Pair). isRegister a (q .reg)) (pushed-pair (pushes a) pair p j .1) ∙ bounds (m .arch) .ra;
+        }
+      where
+        returned : Returning a →
+            (isSpilled (if pushes a then pair ∷ [] else []) (a .ra) ≡ true) ⊎ (oneOf (a .ra) (a .preserved) ≡ true)
+        returned (pushed p is c) = inl (rw (p, eq-eqb (a .ra) (a .ra) refl))
+        returned (left p c l o) = inr o
+
+    module _ (within : pushes a ≡ true → inside (m .stack) top ≡ true) where
+      -- its slot holds ret
+      opening-live : Live a (if pushes a then written (m .stack) top ret else m .stack) (opening a file e ret)
+      unfolding opening
+      opening-live p j =
+          let (push, is) = pushed-pair (pushes a) pair p j in
+          let value = sym (kept-ra (m .arch) file good ret small) in
+          let there = written-holds a (m .stack) (opening a file e ret) pair ret (within push) small value in
+          subst (λ (t : Bool). Slot a (if t then written (m .stack) top ret else m .stack) (opening a file e ret) p) (sym push)
+          (subst (Slot a (written (m .stack) top ret) (opening a file e ret)) (sym is) there)
+
+      -- the invariant after a call
+      entered-keeps :
+          e ∈ records (m .section .bytes) (m .section .base) (m .arch) → 0 < sp a file → (pushes a ≡ true → clear top (m .frames) ≡ true) →
+          length (m .frames) < maxFrames → Chain (m .arch) (m .section) false false (keptBy a file ret) (m .frames) → Inv (entered m e ret)
+      unfolding entered opening
+      entered-keeps isRecord above free few chain =
+          let next = calling-good (m .arch) file good ret small in
+          record {
+            known = i .known;
+            accepted =
+                by-test (λ (s : Region). opens (record { regions = m .section ∷ s ∷ [] }) ≡ true) (pushes a) (written (m .stack) top ret) (m .stack)
+                (λ p. written-opens (m .section) (m .stack) top ret (within p) (i .accepted)) (λ p. i .accepted);
+            bytes = i .bytes;
+            wide = next .wide;
+            values = next .below;
+            few = omega arith;
+            live = (
+              opening-live,
+              by-test (λ (s : Region). AllLive a s (m .frames)) (pushes a) (written (m .stack) top ret) (m .stack)
+                  (λ p. written-live a (m .stack) top ret (within p) (m .frames) (free p) (i .live)) (λ p. i .live),
+            );
+            inner = (opening-kept isRecord above, (calling-sp (m .arch) file good ret, chain));
+          }
+
+-- a call of a record of the section keeps the invariant
+pub call-keeps :
+    (m : Machine) (ret : ℕ) (o : Option Entry) →
+    ((e : Entry) → o ≡ some e → e ∈ records (m .section .bytes) (m .section .base) (m .arch)) → Inv m → Inv (call m ret o)
+unfolding callAllowed
+call-keeps m ret none named i = i
+call-keeps m ret (some e) named i =
+    if-allowed m (entered m e ret) (callAllowed m ret) i λ (g : callAllowed m ret ≡ true).
+    let a : Arch = numbers (m .arch) in
+    let top : ℕ = address (sp a (m .registers)) 1 in
+    let kept : List ℕ = keptBy a (m .registers) ret in
+    let (back, (above, (fits, (within, (free, (out, (few, _))))))) =
+    each (returns (m .frames) ret)
+    (
+    ltb 0 (sp a (m .registers)) ∷ ltb ret (2 ^ a .addressBits) ∷ (not (pushes a) || inside (m .stack) top)
+    ∷ (not (pushes a) || clear top (m .frames)) ∷ leaves m (m .frames) kept ret ∷ ltb (length (m .frames)) maxFrames ∷ []
+    )
+    g in
+    let below = ltb-true ret (2 ^ a .addressBits) fits in
+    let is : pc kept ≡ ret = kept-pc (m .arch) (m .registers) (good m e ret i) ret (small m e ret i below) in
+    entered-keeps m e ret i below (asked (pushes a) (inside (m .stack) top) within) (named e refl)
+    (ltb-true 0 (sp a (m .registers)) above) (asked (pushes a) (clear top (m .frames)) free)
+    (ltb-true (length (m .frames)) maxFrames few) (callers m kept ret is (m .frames) back out (i .inner))

@@ -11,8 +11,9 @@ use Rattle.arch.specs.Arch.{Arch, numbers}
 use Rattle.arch.specs.File.{pcColumn, sp, pc, setSp}
 use Rattle.model.specs.Machine.{column, value}
 use Rattle.model.specs.Event.{pushes, calling, keptBy}
+use Rattle.model.proofs.Files.{pointers}
 use Rattle.model.proofs.Allowed.{by-test}
-use Rattle.model.proofs.Registers.{Returning, pushed, left, returning, bounds, set-keeps, Good, set-good}
+use Rattle.model.proofs.Registers.{Returning, pushed, left, returning, set-keeps, Good, set-good}
 
 module _ (arch : ℕ) (file : List ℕ) (g : Good file) (ret : ℕ) where
   abbrev a : Arch
@@ -37,7 +38,7 @@ module _ (arch : ℕ) (file : List ℕ) (g : Good file) (ret : ℕ) where
   pub kept-sp : sp a (keptBy a file ret) ≡ sp a file
   unfolding keptBy
   kept-sp =
-      set-keeps (λ (x : ℕ). x ≡ sp a file) under pcColumn ret (a .sp) (go (returning arch)) (λ e. absurd (omega (arith, bounds arch .sp)))
+      set-keeps (λ (x : ℕ). x ≡ sp a file) under pcColumn ret (a .sp) (go (returning arch)) (λ e. absurd (omega (arith, pointers arch .spBelow)))
     where
       go : Returning a → sp a under ≡ sp a file
       go (pushed p is c) = rw p
@@ -76,4 +77,4 @@ module _ (arch : ℕ) (file : List ℕ) (g : Good file) (ret : ℕ) where
         go (left p c l o) =
             rw c
             (set-keeps (λ (x : ℕ). x ≡ ret) under pcColumn ret (a .ra)
-            (rw p (getD-set-same file (a .ra) ret 0 (omega (arith, g .wide, bounds arch .sp)))) (λ e. refl))
+            (rw p (getD-set-same file (a .ra) ret 0 (omega (arith, g .wide, pointers arch .spBelow)))) (λ e. refl))

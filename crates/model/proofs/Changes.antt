@@ -21,7 +21,7 @@ use Rattle.model.specs.Event.{changeAllowed, reloadAllowed, unspilled, r
 use Rattle.model.proofs.Chain.{Kept, AllLive, Inner, Inv}
 use Rattle.model.proofs.Guard.{each}
 use Rattle.model.proofs.Allowed.{if-allowed, if-open}
-use Rattle.model.proofs.Registers.{Returning, pushed, left, returning, bounds, sp-alone, set-keeps, set-good}
+use Rattle.model.proofs.Registers.{Returning, pushed, left, returning, sp-alone, set-keeps, set-good}
 
 -- the pairs that stay are pairs that were there
 unspilled-in : (ps : List Pair) (reg : ℕ) (p : Pair) → List·Memᴰ p (unspilled ps reg) → List·Memᴰ p ps
@@ -112,22 +112,24 @@ module _ (m : Machine) (f : Open) (fs : List Open) (here : m .frames ≡ f ∷ f
   small-cfa : f .cfa < 2 ^ 64
   small-cfa = subst (λ (x : ℕ). x < 2 ^ 64) (innermost .0 .keptSp) (innermost .0 .below (numbers (m .arch) .sp))
 
+-- what the rules of a change give
+change-rules :
+    (m : Machine) (f : Open) (reg v : ℕ) → changeAllowed m f reg v ≡ true → (v < 2 ^ 64) × (reg ≡ numbers (m .arch) .sp → ⊥)
+unfolding changeAllowed
+change-rules m f reg v g =
+    let a : Arch = numbers (m .arch) in
+    let spilled : Bool = not (oneOf reg (a .preserved)) || isSpilled (f .spilled) reg in
+    let rest : List Bool = not (eqb reg (a .sp)) ∷ not (eqb (column a reg) pcColumn) ∷ spilled ∷ [] in
+    let (_, (small, (notSp, _))) = each (isRegister a reg) (ltb v (2 ^ 64) ∷ rest) g in
+    (ltb-true v (2 ^ 64) small, eqb-false reg (a .sp) (not-true (eqb reg (a .sp)) notSp))
+
 -- a change keeps the invariant
 pub change-keeps : (m : Machine) (reg v : ℕ) → Inv m → Inv (change m reg v (m .frames))
-unfolding changeAllowed
 change-keeps m reg v i =
     if-open Inv m (change m reg v) i λ (f : Open) (fs : List Open) here.
     if-allowed m _ (changeAllowed m f reg v) i λ (g : changeAllowed m f reg v ≡ true).
-    let a : Arch = numbers (m .arch) in
-    let (_, (small, (notSp, _))) =
-    each (isRegister a reg)
-    (
-    ltb v (2 ^ 64) ∷ not (eqb reg (a .sp)) ∷ not (eqb (column a reg) pcColumn)
-    ∷ (not (oneOf reg (a .preserved)) || isSpilled (f .spilled) reg) ∷ []
-    )
-    g in
-    let other = eqb-false reg (a .sp) (not-true (eqb reg (a .sp)) notSp) in
-    setting m f fs here i (column a reg) v (ltb-true v (2 ^ 64) small) (λ c. absurd (other (sp-alone a (bounds (m .arch)) reg (sym c))))
+    let (small, notSp) = change-rules m f reg v g in
+    setting m f fs here i (column (numbers (m .arch)) reg) v small (λ e. absurd (notSp (sp-alone (m .arch) reg (sym e))))
 
 -- a reload keeps it
 pub reload-keeps : (m : Machine) (reg : ℕ) → Inv m → Inv (reload m reg (m .frames))
@@ -138,10 +140,10 @@ reload-keeps m reg i =
     let (_, not16) = both (isSpilled (f .spilled) reg) (not (eqb reg 16)) g in
     let k : ℕ = column (numbers (m .arch)) reg in
     let kept : Kept (m .arch) (m .section) f = innermost m f fs here i .0 in
-    let low : numbers (m .arch) .sp ≡ k → getD (f .kept) k 0 ≤ f .cfa =
-    λ e. omega (arith, sym (ap (λ (x : ℕ). getD (f .kept) x 0) e) ∙ kept .keptSp) in
-    let is : Inv (withRegisters m (set (m .registers) k (getD (f .kept) k 0))) = setting m f fs here i k (getD (f .kept) k 0) (kept .below k) low in
-    ending (withRegisters m (set (m .registers) k (getD (f .kept) k 0))) f fs here is reg (eqb-false reg 16 (not-true (eqb reg 16) not16))
+    let v : ℕ = getD (f .kept) k 0 in
+    let low : numbers (m .arch) .sp ≡ k → v ≤ f .cfa = λ e. omega (arith, sym (ap (λ (x : ℕ). getD (f .kept) x 0) e) ∙ kept .keptSp) in
+    ending (withRegisters m (set (m .registers) k v)) f fs here (setting m f fs here i k v (kept .below k) low) reg
+    (eqb-false reg 16 (not-true (eqb reg 16) not16))
 
 -- a move of sp keeps it
 pub move-keeps : (m : Machine) (to : ℕ) → Inv m → Inv (move m to (m .frames))

@@ -9,26 +9,27 @@ use native.Mathlib.Nat.{mod-eq-of-lt}
 use native.Mathlib.Omega.{arith}
 use lib.Dec.{ltb}
 use lib.ListN.{length}
-use borrow.Author.Tests.{eqb-true, eq-eqb, ltb-true}
+use borrow.Author.Tests.{eqb-true, eq-eqb, ltb-true, lt-ltb}
 use Rattle.failure.specs.Choice.{if_then_else_}
 use Rattle.failure.specs.Failure.{oneOf}
 use Rattle.mem.specs.Memory.{Region}
 use Rattle.mem.specs.Opening.{opens}
 use Rattle.mem.proofs.Tests.{both}
 use Rattle.arch.specs.Arch.{Arch, numbers}
-use Rattle.arch.specs.File.{sp, pc}
+use Rattle.arch.specs.File.{columns, sp, pc}
 use Rattle.lookup.specs.Record.{holds}
 use Rattle.lookup.specs.Tables.{Entry, records}
 use Rattle.lookup.specs.Sound.{_∈_}
 use Rattle.frame.specs.Layout.{Pair}
 use Rattle.model.specs.FrameStep.{maxFrames}
-use Rattle.model.specs.Machine.{Open, Machine, isRegister, address, inside, clear, written}
+use Rattle.model.specs.Machine.{Open, Machine, column, isRegister, address, inside, clear, written}
 use Rattle.model.specs.Described.{isSpilled, described}
 use Rattle.model.specs.Event.{pushes, keptBy, opening, returns, leaves, callAllowed, entered, call}
 use Rattle.model.proofs.Chain.{Kept, Slot, Live, AllLive, Chain, Inner, Inv}
+use Rattle.model.proofs.Files.{pointers}
 use Rattle.model.proofs.Guard.{each}
 use Rattle.model.proofs.Allowed.{asked, by-test, if-allowed}
-use Rattle.model.proofs.Registers.{Returning, pushed, left, returning, bounds, Good}
+use Rattle.model.proofs.Registers.{Returning, pushed, left, returning, address-bits, Good}
 use Rattle.model.proofs.Calling.{calling-sp, kept-sp, calling-good, kept-good, kept-pc, kept-ra}
 use Rattle.model.proofs.Slots.{written-holds, written-live, written-opens}
 
@@ -39,9 +40,9 @@ callers :
 callers m kept ret is [] back out inner = is ∙ eqb-true ret 0 back
 callers m kept ret is (f ∷ fs) back out inner =
     let (above, held) = both (ltb 0 ret) (holds (f .entry .function) (ret - 1)) back in
-    let (fits, low) =
-    both (described (numbers (m .arch)) (m .section) f kept false (ret - 1)) (ltb (sp (numbers (m .arch)) kept) (f .cfa)) out in
-    let lower : sp (numbers (m .arch)) kept < f .cfa = ltb-true (sp (numbers (m .arch)) kept) (f .cfa) low in (
+    let a : Arch = numbers (m .arch) in
+    let (fits, low) = both (described a (m .section) f kept false (ret - 1)) (ltb (sp a kept) (f .cfa)) out in
+    let lower : sp a kept < f .cfa = ltb-true (sp a kept) (f .cfa) low in (
       record {
         kept = inner .0;
         called = rw is (ltb-true 0 ret above);
@@ -80,15 +81,16 @@ module _ (m : Machine) (e : Entry) (ret : ℕ) (i : Inv m) where
   module _ (fits : ret < 2 ^ a .addressBits) where
     -- ret is a number of 64 bits
     small : ret < 2 ^ 64
-    small = omega (arith, fits, bounds (m .arch) .address)
+    small = omega (arith, fits, address-bits (m .arch))
 
     -- the frame that a call opens
     opening-kept :
         e ∈ records (m .section .bytes) (m .section .base) (m .arch) → 0 < sp a file → Kept (m .arch) (m .section) (opening a file e ret)
-    unfolding opening
+    unfolding opening isRegister
     opening-kept isRecord above =
         let kept = kept-good (m .arch) file good ret small in
         let back = kept-pc (m .arch) file good ret small in
+        let known = lt-ltb (column a (a .ra)) columns (pointers (m .arch) .raBelow) in
         record {
           isRecord = isRecord;
           wide = kept .wide;
@@ -97,8 +99,7 @@ module _ (m : Machine) (e : Entry) (ret : ℕ) (i : Inv m) where
           above = above;
           returns = returned (returning (m .arch));
           keptPc = rw (kept-ra (m .arch) file good ret small, back) (mod-eq-of-lt fits);
-          registers = λ p j.
-              ap (λ (q : Pair). isRegister a (q .reg)) (pushed-pair (pushes a) pair p j .1) ∙ bounds (m .arch) .ra;
+          registers = λ p j. ap (λ (q : Pair). isRegister a (q .reg)) (pushed-pair (pushes a) pair p j .1) ∙ known;
         }
       where
         returned : Returning a →
@@ -141,26 +142,28 @@ module _ (m : Machine) (e : Entry) (ret : ℕ) (i : Inv m) where
             inner = (opening-kept isRecord above, (calling-sp (m .arch) file good ret, chain));
           }
 
+-- an allowed call
+call-allowed :
+    (m : Machine) (e : Entry) (ret : ℕ) → e ∈ records (m .section .bytes) (m .section .base) (m .arch) → Inv m → callAllowed m ret ≡ true →
+    Inv (entered m e ret)
+unfolding callAllowed
+call-allowed m e ret isRecord i g =
+    let a : Arch = numbers (m .arch) in
+    let top : ℕ = address (sp a (m .registers)) 1 in
+    let kept : List ℕ = keptBy a (m .registers) ret in
+    let caller : List Bool = leaves m (m .frames) kept ret ∷ ltb (length (m .frames)) maxFrames ∷ [] in
+    let room : List Bool = (not (pushes a) || inside (m .stack) top) ∷ (not (pushes a) || clear top (m .frames)) ∷ caller in
+    let rest : List Bool = ltb 0 (sp a (m .registers)) ∷ ltb ret (2 ^ a .addressBits) ∷ room in
+    let (back, (above, (fits, (within, (free, (out, (few, _))))))) = each (returns (m .frames) ret) rest g in
+    let below = ltb-true ret (2 ^ a .addressBits) fits in
+    let is : pc kept ≡ ret = kept-pc (m .arch) (m .registers) (good m e ret i) ret (small m e ret i below) in
+    entered-keeps m e ret i below (asked (pushes a) (inside (m .stack) top) within) isRecord
+    (ltb-true 0 (sp a (m .registers)) above) (asked (pushes a) (clear top (m .frames)) free)
+    (ltb-true (length (m .frames)) maxFrames few) (callers m kept ret is (m .frames) back out (i .inner))
+
 -- a call of a record of the section keeps the invariant
 pub call-keeps :
     (m : Machine) (ret : ℕ) (o : Option Entry) →
     ((e : Entry) → o ≡ some e → e ∈ records (m .section .bytes) (m .section .base) (m .arch)) → Inv m → Inv (call m ret o)
-unfolding callAllowed
 call-keeps m ret none named i = i
-call-keeps m ret (some e) named i =
-    if-allowed m (entered m e ret) (callAllowed m ret) i λ (g : callAllowed m ret ≡ true).
-    let a : Arch = numbers (m .arch) in
-    let top : ℕ = address (sp a (m .registers)) 1 in
-    let kept : List ℕ = keptBy a (m .registers) ret in
-    let (back, (above, (fits, (within, (free, (out, (few, _))))))) =
-    each (returns (m .frames) ret)
-    (
-    ltb 0 (sp a (m .registers)) ∷ ltb ret (2 ^ a .addressBits) ∷ (not (pushes a) || inside (m .stack) top)
-    ∷ (not (pushes a) || clear top (m .frames)) ∷ leaves m (m .frames) kept ret ∷ ltb (length (m .frames)) maxFrames ∷ []
-    )
-    g in
-    let below = ltb-true ret (2 ^ a .addressBits) fits in
-    let is : pc kept ≡ ret = kept-pc (m .arch) (m .registers) (good m e ret i) ret (small m e ret i below) in
-    entered-keeps m e ret i below (asked (pushes a) (inside (m .stack) top) within) (named e refl)
-    (ltb-true 0 (sp a (m .registers)) above) (asked (pushes a) (clear top (m .frames)) free)
-    (ltb-true (length (m .frames)) maxFrames few) (callers m kept ret is (m .frames) back out (i .inner))
+call-keeps m ret (some e) named i = if-allowed m (entered m e ret) (callAllowed m ret) i (call-allowed m e ret (named e refl) i)

@@ -10,8 +10,9 @@ use Rattle.failure.specs.Failure.{oneOf}
 use Rattle.arch.specs.Arch.{Arch, numbers}
 use Rattle.arch.specs.File.{columns, pcColumn, columnOf}
 use Rattle.arch.proofs.Arch.{of-both}
-use Rattle.model.specs.Machine.{column, isRegister}
+use Rattle.model.specs.Machine.{column}
 use Rattle.model.specs.Event.{pushes}
+use Rattle.model.proofs.Files.{pointers}
 
 -- a call pushes its return address, the return register being 16 in the column of pc; or it leaves the address in the return register,
 -- which is preserved and stands before sp
@@ -24,35 +25,32 @@ pub returning : (arch : ℕ) → Returning (numbers arch)
 unfolding pushes column columnOf
 returning = of-both Returning (left refl refl (lit< tt) refl) (pushed refl refl refl)
 
--- sp stands before pc and before the upper run of registers; the return register is one; an address has at most 64 bits
-pub record Bounds (a : Arch) : Type 0 where
-  pub sp : a .sp < pcColumn
-  pub upper : a .sp < a .highColumn
-  pub ra : isRegister a (a .ra) ≡ true
-  pub address : 2 ^ a .addressBits ≤ 2 ^ 64
+-- an address has at most 64 bits
+pub address-bits : (arch : ℕ) → 2 ^ numbers arch .addressBits ≤ 2 ^ 64
+address-bits = of-both (λ (a : Arch). 2 ^ a .addressBits ≤ 2 ^ 64) (lit≤ tt) (lit≤ tt)
 
--- on both architectures
-pub bounds : (arch : ℕ) → Bounds (numbers arch)
-unfolding isRegister column columnOf
-bounds =
-    of-both Bounds
-    (record { sp = lit< tt; upper = lit< tt; ra = refl; address = lit≤ tt })
-    (record { sp = lit< tt; upper = lit< tt; ra = refl; address = lit≤ tt })
+-- sp stands before the upper run of registers
+sp-upper : (arch : ℕ) → numbers arch .sp < numbers arch .highColumn
+sp-upper = of-both (λ (a : Arch). a .sp < a .highColumn) (lit< tt) (lit< tt)
 
--- no other register stands in the column of sp
-pub sp-alone : (a : Arch) → Bounds a → (reg : ℕ) → column a reg ≡ a .sp → reg ≡ a .sp
-unfolding column columnOf
-sp-alone a b reg = go (ltb reg (a .low)) refl (leb (a .high) reg && ltb reg (a .high + a .highCount)) refl
-  where
-    go : (s : Bool) → ltb reg (a .low) ≡ s → (t : Bool) → (leb (a .high) reg && ltb reg (a .high + a .highCount)) ≡ t →
-        column a reg ≡ a .sp → reg ≡ a .sp
-    go true p t q e = rw p at e
-    go false p true q e =
-        let upper : a .highColumn + (reg - a .high) ≡ a .sp = rw (p, q) at e in
-        absurd (omega (arith, b .upper))
-    go false p false q e =
-        let none : columns ≡ a .sp = rw (p, q) at e in
-        absurd (omega (arith, b .sp))
+module _ (arch : ℕ) where
+  abbrev a : Arch
+  a = numbers arch
+
+  -- no other register stands in the column of sp
+  pub sp-alone : (reg : ℕ) → column a reg ≡ a .sp → reg ≡ a .sp
+  unfolding column columnOf
+  sp-alone reg = go (ltb reg (a .low)) refl (leb (a .high) reg && ltb reg (a .high + a .highCount)) refl
+    where
+      go : (s : Bool) → ltb reg (a .low) ≡ s → (t : Bool) → (leb (a .high) reg && ltb reg (a .high + a .highCount)) ≡ t →
+          column a reg ≡ a .sp → reg ≡ a .sp
+      go true p t q e = rw p at e
+      go false p true q e =
+          let upper : a .highColumn + (reg - a .high) ≡ a .sp = rw (p, q) at e in
+          absurd (omega (arith, sp-upper arch))
+      go false p false q e =
+          let none : columns ≡ a .sp = rw (p, q) at e in
+          absurd (omega (arith, pointers arch .spBelow))
 
 -- what holds of a column, and of the value where it is set, holds of the column after
 pub set-keeps :

@@ -1,0 +1,46 @@
+-- The cursor (document 01, "The state program": "The byte cursor moves on in place, as `Bytes` does in the Rust"): what is read at
+-- it, and where it stands then. On a refusal it stays where it stood.
+use Prim.Native.Nat.{ℕ, _+_}
+use Rattle.mem.specs.Memory.{Memory}
+use Rattle.leb.specs.Reader.{byteAt, ulebAt}
+use Rattle.leb.specs.declared.Byte.{Byte}
+use Rattle.leb.specs.declared.Byte.the-variants as byte
+use Rattle.leb.specs.declared.Uleb.{Uleb}
+use Rattle.leb.specs.declared.Uleb.the-variants as uleb
+use Rattle.cursor.specs.declared.Bytes.{Bytes}
+use Rattle.cursor.specs.declared.Moved.{Moved}
+use Rattle.cursor.specs.declared.Value.{Value}
+use Rattle.cursor.specs.declared.Value.the-variants as value
+
+-- a number, without the place after it
+abbrev pub valueOf : Uleb → Value
+valueOf (uleb.Is v next) = value.Is v
+valueOf uleb.Limit = value.Limit
+valueOf uleb.TooLarge = value.TooLarge
+valueOf uleb.Outside = value.Outside
+
+-- a number with the place after it
+abbrev pub placed : ℕ → Value → Uleb
+placed next (value.Is v) = uleb.Is v next
+placed next value.Limit = uleb.Limit
+placed next value.TooLarge = uleb.TooLarge
+placed next value.Outside = uleb.Outside
+
+-- the place after a number, or the place of a refusal
+abbrev pub placeAfter : ℕ → Uleb → ℕ
+placeAfter pos (uleb.Is v next) = next
+placeAfter pos uleb.Limit = pos
+placeAfter pos uleb.TooLarge = pos
+placeAfter pos uleb.Outside = pos
+
+-- a number beside the place after it
+abbrev pub movedOf : ℕ → Uleb → Moved
+movedOf pos u = record { value = valueOf u; pos = placeAfter pos u }
+
+-- the number at the cursor
+abbrev pub ulebHere : Memory → Bytes → Uleb
+ulebHere m b = ulebAt m (b .end) (b .pos)
+
+-- the cursor past a number; on a refusal as it was
+abbrev pub past : Bytes → Uleb → Bytes
+past b u = record { pos = placeAfter (b .pos) u; end = b .end }

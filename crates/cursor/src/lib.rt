@@ -1,0 +1,122 @@
+// A cursor over bytes that moves on in place: ps-unwind's `Bytes`.
+// `u8` and `uleb` are for the crates above, which have tested what is lent; so are `byte_from` and `uleb_from`, which make a
+// cursor, read through it and give back its place, and whose callers see no cursor.
+ghost use mathlib.Core.Path.{_≡_};
+ghost use Rattle.mem.specs.Memory.{lent};
+ghost use Rattle.leb.specs.Reader.{byteAt, ulebAt};
+ghost use Rattle.cursor.specs.Cursor as Cursor;
+use leb::Byte;
+use leb::Uleb;
+use leb::byte_at;
+use leb::uleb_at;
+
+// The position of the next byte, and the limit.
+pub struct Bytes {
+    pub pos: usize,
+    pub end: usize,
+}
+
+// A number; the limit met before its end; no end in five bytes or above 2^32 - 1; no memory there.
+pub enum Value {
+    Is(usize),
+    Limit,
+    TooLarge,
+    Outside,
+}
+
+// A byte beside the position after it, or the position of a refusal.
+struct MovedByte {
+    byte: Byte,
+    pos: usize,
+}
+
+// A number beside the position after it, or the position of a refusal.
+struct Moved {
+    value: Value,
+    pos: usize,
+}
+
+// The number at a position, and where the cursor stands then.
+fn uleb_moved<'a>(
+    section: &'a [u8],
+    section_base: usize,
+    stack: &'a [u8],
+    stack_base: usize,
+    pos: usize,
+    end: usize,
+) -> Moved
+    ensures { λ r. ⌜
+        r ≡
+        Cursor.movedOf pos (ulebAt (lent (now (section .entry)) «section_base» (now (stack .entry)) «stack_base» .regions) end pos)
+        ⌝ }
+{
+    match uleb_at(section, section_base, stack, stack_base, pos, end) {
+        Uleb::Is(v, next) => Moved {
+            value: Value::Is(v),
+            pos: next,
+        },
+        Uleb::Limit => Moved {
+            value: Value::Limit,
+            pos,
+        },
+        Uleb::TooLarge => Moved {
+            value: Value::TooLarge,
+            pos,
+        },
+        Uleb::Outside => Moved {
+            value: Value::Outside,
+            pos,
+        },
+    }
+}
+
+// The number at the cursor, which moves past its bytes; on a refusal the cursor stays.
+pub fn uleb<'a, 'b>(
+    section: &'a [u8],
+    section_base: usize,
+    stack: &'a [u8],
+    stack_base: usize,
+    bytes: &'b mut Bytes,
+) -> Value
+    ensures { λ r. ⌜
+        (r ≡ Cursor.valueOf (Cursor.ulebHere (lent (now (section .entry)) «section_base» (now (stack .entry)) «stack_base» .regions) (now (bytes .entry))))
+        × (now (bytes .exit) ≡ Cursor.past (now (bytes .entry)) (Cursor.ulebHere (lent (now (section .entry)) «section_base» (now (stack .entry)) «stack_base» .regions) (now (bytes .entry))))
+        ⌝ }
+{
+    let m = uleb_moved(section, section_base, stack, stack_base, bytes.pos, bytes.end);
+    bytes.pos = m.pos;
+    m.value
+}
+
+// A number and the place after it.
+fn placed(v: Value, pos: usize) -> Uleb
+    ensures { λ r. ⌜ r ≡ Cursor.placed pos v ⌝ }
+{
+    match v {
+        Value::Is(v) => Uleb::Is(v, pos),
+        Value::Limit => Uleb::Limit,
+        Value::TooLarge => Uleb::TooLarge,
+        Value::Outside => Uleb::Outside,
+    }
+}
+
+// The number at a position, read through a cursor.
+pub fn uleb_from<'a>(
+    section: &'a [u8],
+    section_base: usize,
+    stack: &'a [u8],
+    stack_base: usize,
+    pos: usize,
+    limit: usize,
+) -> Uleb
+    ensures { λ r. ⌜
+        r ≡ ulebAt (lent (now (section .entry)) «section_base» (now (stack .entry)) «stack_base» .regions) limit pos
+        ⌝ }
+{
+    let mut bytes = Bytes {
+        pos,
+        end: limit,
+    };
+    let v = uleb(section, section_base, stack, stack_base, &mut bytes);
+    placed(v, bytes.pos)
+}

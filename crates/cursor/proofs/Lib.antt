@@ -1,1 +1,2 @@
--- Proofs about the cursor.
+-- Laws of the cursor.
+pub mod Cursor

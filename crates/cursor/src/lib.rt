@@ -83,7 +83,14 @@ pub fn uleb<'a, 'b>(
         × (now (bytes .exit) ≡ Cursor.past (now (bytes .entry)) (Cursor.ulebHere (lent (now (section .entry)) «section_base» (now (stack .entry)) «stack_base» .regions) (now (bytes .entry))))
         ⌝ }
 {
-    let m = uleb_moved(section, section_base, stack, stack_base, bytes.pos, bytes.end);
+    let m = uleb_moved(
+        section,
+        section_base,
+        stack,
+        stack_base,
+        bytes.pos,
+        bytes.end,
+    );
     bytes.pos = m.pos;
     m.value
 }
@@ -113,10 +120,7 @@ pub fn uleb_from<'a>(
         r ≡ ulebAt (lent (now (section .entry)) «section_base» (now (stack .entry)) «stack_base» .regions) limit pos
         ⌝ }
 {
-    let mut bytes = Bytes {
-        pos,
-        end: limit,
-    };
+    let mut bytes = Bytes { pos, end: limit };
     let v = uleb(section, section_base, stack, stack_base, &mut bytes);
     placed(v, bytes.pos)
 }

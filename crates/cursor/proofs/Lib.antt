@@ -1,2 +1,3 @@
--- Laws of the cursor.
+-- Laws of the cursor, and what its walks share.
 pub mod Cursor
+pub mod Lent

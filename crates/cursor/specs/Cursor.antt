@@ -9,8 +9,27 @@ use Rattle.leb.specs.declared.Uleb.{Uleb}
 use Rattle.leb.specs.declared.Uleb.the-variants as uleb
 use Rattle.cursor.specs.declared.Bytes.{Bytes}
 use Rattle.cursor.specs.declared.Moved.{Moved}
+use Rattle.cursor.specs.declared.MovedByte.{MovedByte}
 use Rattle.cursor.specs.declared.Value.{Value}
 use Rattle.cursor.specs.declared.Value.the-variants as value
+
+-- the place after a byte, or the place of a refusal
+abbrev pub placeAfterByte : ℕ → Byte → ℕ
+placeAfterByte pos (byte.Is b) = pos + 1
+placeAfterByte pos byte.Limit = pos
+placeAfterByte pos byte.Outside = pos
+
+-- a byte beside the place after it
+abbrev pub movedByteOf : ℕ → Byte → MovedByte
+movedByteOf pos b = record { byte = b; pos = placeAfterByte pos b }
+
+-- the byte at the cursor
+abbrev pub byteHere : Memory → Bytes → Byte
+byteHere m c = byteAt m (c .end) (c .pos)
+
+-- the cursor past a byte; on a refusal as it was
+abbrev pub pastByte : Bytes → Byte → Bytes
+pastByte c b = record { pos = placeAfterByte (c .pos) b; end = c .end }
 
 -- a number, without the place after it
 abbrev pub valueOf : Uleb → Value
@@ -39,8 +58,8 @@ movedOf pos u = record { value = valueOf u; pos = placeAfter pos u }
 
 -- the number at the cursor
 abbrev pub ulebHere : Memory → Bytes → Uleb
-ulebHere m b = ulebAt m (b .end) (b .pos)
+ulebHere m c = ulebAt m (c .end) (c .pos)
 
 -- the cursor past a number; on a refusal as it was
 abbrev pub past : Bytes → Uleb → Bytes
-past b u = record { pos = placeAfter (b .pos) u; end = b .end }
+past c u = record { pos = placeAfter (c .pos) u; end = c .end }

@@ -36,6 +36,74 @@ struct Moved {
     pos: usize,
 }
 
+// The byte at a position, and where the cursor stands then.
+fn byte_moved<'a>(
+    section: &'a [u8],
+    section_base: usize,
+    stack: &'a [u8],
+    stack_base: usize,
+    pos: usize,
+    end: usize,
+) -> MovedByte
+    ensures { λ r. ⌜
+        r ≡
+        Cursor.movedByteOf pos (byteAt (lent (now (section .entry)) «section_base» (now (stack .entry)) «stack_base» .regions) end pos)
+        ⌝ }
+{
+    match byte_at(section, section_base, stack, stack_base, pos, end) {
+        Byte::Is(b) => MovedByte {
+            byte: Byte::Is(b),
+            pos: pos + 1,
+        },
+        Byte::Limit => MovedByte {
+            byte: Byte::Limit,
+            pos,
+        },
+        Byte::Outside => MovedByte {
+            byte: Byte::Outside,
+            pos,
+        },
+    }
+}
+
+// The byte at the cursor, which moves past it; on a refusal the cursor stays.
+pub fn u8<'a, 'b>(
+    section: &'a [u8],
+    section_base: usize,
+    stack: &'a [u8],
+    stack_base: usize,
+    bytes: &'b mut Bytes,
+) -> Byte
+    ensures { λ r. ⌜
+        (r ≡ Cursor.byteHere (lent (now (section .entry)) «section_base» (now (stack .entry)) «stack_base» .regions) (now (bytes .entry)))
+        × (now (bytes .exit) ≡ Cursor.pastByte (now (bytes .entry)) (Cursor.byteHere (lent (now (section .entry)) «section_base» (now (stack .entry)) «stack_base» .regions) (now (bytes .entry))))
+        ⌝ }
+{
+    let m = byte_moved(section, section_base, stack, stack_base, bytes.pos, bytes.end);
+    bytes.pos = m.pos;
+    m.byte
+}
+
+// The byte at a position, read through a cursor.
+pub fn byte_from<'a>(
+    section: &'a [u8],
+    section_base: usize,
+    stack: &'a [u8],
+    stack_base: usize,
+    pos: usize,
+    limit: usize,
+) -> Byte
+    ensures { λ r. ⌜
+        r ≡ byteAt (lent (now (section .entry)) «section_base» (now (stack .entry)) «stack_base» .regions) limit pos
+        ⌝ }
+{
+    let mut bytes = Bytes {
+        pos,
+        end: limit,
+    };
+    u8(section, section_base, stack, stack_base, &mut bytes)
+}
+
 // The number at a position, and where the cursor stands then.
 fn uleb_moved<'a>(
     section: &'a [u8],

@@ -79,7 +79,14 @@ pub fn u8<'a, 'b>(
         × (now (bytes .exit) ≡ Cursor.pastByte (now (bytes .entry)) (Cursor.byteHere (lent (now (section .entry)) «section_base» (now (stack .entry)) «stack_base» .regions) (now (bytes .entry))))
         ⌝ }
 {
-    let m = byte_moved(section, section_base, stack, stack_base, bytes.pos, bytes.end);
+    let m = byte_moved(
+        section,
+        section_base,
+        stack,
+        stack_base,
+        bytes.pos,
+        bytes.end,
+    );
     bytes.pos = m.pos;
     m.byte
 }
@@ -97,10 +104,7 @@ pub fn byte_from<'a>(
         r ≡ byteAt (lent (now (section .entry)) «section_base» (now (stack .entry)) «stack_base» .regions) limit pos
         ⌝ }
 {
-    let mut bytes = Bytes {
-        pos,
-        end: limit,
-    };
+    let mut bytes = Bytes { pos, end: limit };
     u8(section, section_base, stack, stack_base, &mut bytes)
 }
 

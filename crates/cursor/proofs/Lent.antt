@@ -33,7 +33,8 @@ Part κ s = ShrSlice (named 0) κ u8 .own s (fat-of s ∷ [])
 abbrev pub Four : Lft → RefT (List ℕ) → ℕ → RefT (List ℕ) → ℕ → Fml → Fml
 Four κ s sb t tb P = fsep (Part κ s) (fsep (usize .own sb (vint w64 sb ∷ [])) (fsep (Part κ t) (fsep (usize .own tb (vint w64 tb ∷ [])) P)))
 
-module _ {M : Type 1} (𝓤 : URA M) (H : Heap 𝓤) (A : Atoms 𝓤) (W : Given 𝓤 H A) (κ : Lft) (s : RefT (List ℕ)) (sb : ℕ) (t : RefT (List ℕ)) (tb : ℕ) (P : Fml) where
+module _ {M : Type 1} (𝓤 : URA M) (H : Heap 𝓤) (A : Atoms 𝓤) (W : Given 𝓤 H A) (κ : Lft) (s : RefT (List ℕ)) (sb : ℕ) (t : RefT (List ℕ)) (tb : ℕ)
+    (P : Fml) where
   pub four-out : ent 𝓤 (sem 𝓤 H A (Four κ s sb t tb P)) (sep 𝓤 (sep 𝓤 (sem 𝓤 H A (Part κ s)) (sem 𝓤 H A (Part κ t))) (sem 𝓤 H A P))
   four-out =
       qed W (‵ (Four κ s sb t tb P) ∷ []) ∵ fsplit ! $ move ! (1 ∷ []) $ fsplit ! $ drop ! $ fsplit ! $ move ! (1 ∷ []) $ fsplit ! $ drop ! $
@@ -50,7 +51,8 @@ module _ {M : Type 1} (𝓤 : URA M) (H : Heap 𝓤) (A : Atoms 𝓤) (W : Given
     pub four-copy : ent 𝓤 (sep 𝓤 (sep 𝓤 (sem 𝓤 H A (Part κ s)) (sem 𝓤 H A (Part κ t))) (sem 𝓤 H A P))
         (sep 𝓤 (sem 𝓤 H A (Four κ s sb t tb P)) (sep 𝓤 (sem 𝓤 H A (Part κ s)) (sem 𝓤 H A (Part κ t))))
     four-copy =
-        qed W ((‵ (Part κ s) ⊛ ‵ (Part κ t)) ∷ ‵ P ∷ []) ∵ split ! $ use1 W (‵ (Part κ s) ⊛ ‵ (Part κ s)) (shr-slice-copy 𝓤 H A W (named 0) κ u8 .twice s (fat-of s ∷ [])) $ split ! $
+        qed W ((‵ (Part κ s) ⊛ ‵ (Part κ t)) ∷ ‵ P ∷ []) ∵ split ! $
+        use1 W (‵ (Part κ s) ⊛ ‵ (Part κ s)) (shr-slice-copy 𝓤 H A W (named 0) κ u8 .twice s (fat-of s ∷ [])) $ split ! $
         move ! (2 ∷ []) $ use1 W (‵ (Part κ t) ⊛ ‵ (Part κ t)) (shr-slice-copy 𝓤 H A W (named 0) κ u8 .twice t (fat-of t ∷ [])) $ split ! $
         -- [the stack twice; the section twice; P]
         move ! (2 ∷ 0 ∷ []) $ join ! $ move ! (0 ∷ 3 ∷ []) $ use2 W (‵ (Four κ s sb t tb P)) four-in $ frame ! $ move ! (1 ∷ 0 ∷ []) $ done !

@@ -1,4 +1,6 @@
--- `cursor::uleb` meets its contract: a walk of its MIR, by hand. The borrow is opened, the two fields are read, `uleb_moved` is called on the slices and the numbers, the place that it answers is stored, and the borrow is closed at the cursor with that place.
+-- `cursor::uleb` meets its contract: a walk of its MIR, by hand. The borrow is opened, the two fields are read, `uleb_moved` is
+-- called on the slices and the numbers, the place that it answers is stored, and the borrow is closed at the cursor with that
+-- place.
 -- All that the proof knows of `uleb_moved` is that it meets its contract.
 -- Assumes nothing.
 use mathlib.Core.Path.{_≡_, refl, ap, subst}
@@ -16,9 +18,11 @@ use prog.Wp.{Heap, Calls, Loops, WpFn, Tables}
 use ghost.Atoms.{Atoms, sem}
 use contract.Monad.{Fun, fact}
 use contract.Running.{givenOf, tables, tablesOf}
-use types.Kit.{Given, ‵, raw, _⊛_, ⋆, some, later, _$_, _∵_, !, qed, by, move, keep, drop, use1, use2, split, join, pick, rewrite, fsplit, fsplit3, fjoin, fjoin3, feqI, suffices, frame, await, done}
+use types.Kit.{Given, ‵, raw, _⊛_, ⋆, some, later, _$_, _∵_, !, qed, by, move, keep, drop, use1, use2, split, join, pick, rewrite, fsplit, fsplit3}
+use types.Kit.{fjoin, fjoin3, feqI, suffices, frame, await, done}
 use types.Part.{whole, sub, look-in, store-in}
-use types.Run.{look, init, forget, stop, hop, fld, from, load, of-opd, and-then, no-more, assigns, land, returns, enter, alloc1, alloc0, params1, pass1, pass0, free1, free0}
+use types.Run.{look, init, forget, stop, hop, fld, from, load, of-opd, and-then, no-more, assigns, land, returns, enter, alloc1, alloc0, params1}
+use types.Run.{pass1, pass0, free1, free0}
 use types.SemTy.{Body}
 use sound.WpLaws.{FmC, fmOf, WpFn-mono}
 use denote.RattleType.{owns}
@@ -38,7 +42,8 @@ use denote.Triple.Call.{calls-at}
 use denote.Triple.Entry.{Vals, onEntry}
 use denote.Triple.Spec.{Meets, tripleOf}
 use denote.Triple.Table.{entered, cited}
-use denote.Triple.Walked.{says, Stays, stay-ref, stay-none, stay-none-slice, walkOf, AllGo, goes-none, goes-none-slice, goes-ref, Walks, ends-at, walked, walk-meets}
+use denote.Triple.Walked.{says, Stays, stay-ref, stay-none, stay-none-slice, walkOf, AllGo, goes-none, goes-none-slice, goes-ref, Walks, ends-at}
+use denote.Triple.Walked.{walked, walk-meets}
 use denote.Triple.Clauses.{ensured, lasts}
 use denote.Exit.{yes}
 use Rattle.mem.specs.Memory.{lent}
@@ -64,14 +69,17 @@ use Rattle.cursor.proofs.uleb.Code as code
 
 abbrev stayed : Stays (uleb.ended .signature .params) (uleb.ended .kept)
 stayed =
-    (stay-none-slice (0 ∷ []) tt (plain (λ _. u8)) yes, (stay-none (λ _. usize) yes, (stay-none-slice (0 ∷ []) tt (plain (λ _. u8)) yes, (stay-none (λ _. usize) yes, (stay-ref (1 ∷ []) tt (plain (λ _. B.the-row)), tt)))))
+    (stay-none-slice (0 ∷ []) tt (plain (λ _. u8)) yes, (stay-none (λ _. usize) yes,
+        (stay-none-slice (0 ∷ []) tt (plain (λ _. u8)) yes, (stay-none (λ _. usize) yes, (stay-ref (1 ∷ []) tt (plain (λ _. B.the-row)), tt)))))
 
 module _ {M : Type 1} (𝓤 : URA M) (H : Heap 𝓤) (A : Atoms 𝓤) (at-mem : Memory → SProp 𝓤) (run : Routine → Fun 𝓤) where
   -- the contract that the proof cites
   abbrev UlebMoved : Contract 𝓤
   UlebMoved = tripleOf 𝓤 H A moved.signature (moved.spec 𝓤 H A at-mem run)
 
-module _ {M : Type 1} (𝓤 : URA M) (H : Heap 𝓤) (A : Atoms 𝓤) (W : Given 𝓤 H A) (at-mem : Memory → SProp 𝓤) (run : Routine → Fun 𝓤) (κ κ′ : Lft) (q q′ : Share) (s : RefT (List ℕ)) (sb : ℕ) (t : RefT (List ℕ)) (tb : ℕ) (b o : ℕ) (γ : GName) (h : Bytes) (sb-fits : sb < 2 ^ 64) (tb-fits : tb < 2 ^ 64) where
+module _ {M : Type 1} (𝓤 : URA M) (H : Heap 𝓤) (A : Atoms 𝓤) (W : Given 𝓤 H A) (at-mem : Memory → SProp 𝓤) (run : Routine → Fun 𝓤) (κ κ′ : Lft)
+    (q q′ : Share) (s : RefT (List ℕ)) (sb : ℕ) (t : RefT (List ℕ)) (tb : ℕ) (b o : ℕ) (γ : GName) (h : Bytes) (sb-fits : sb < 2 ^ 64)
+    (tb-fits : tb < 2 ^ 64) where
   abbrev Arg : Type 0
   Arg = RefT (List ℕ) × (ℕ × (RefT (List ℕ) × (ℕ × (RefT Bytes × Unit {0}))))
 
@@ -109,14 +117,20 @@ module _ {M : Type 1} (𝓤 : URA M) (H : Heap 𝓤) (A : Atoms 𝓤) (W : Given
   Numbers = fsep (usize .own (h .pos) (vint w64 (h .pos) ∷ [])) (fsep (usize .own (h .end) (vint w64 (h .end) ∷ [])) ftrue)
 
   enters : ent 𝓤 (onEntry 𝓤 H A moved.signature (κ, tt) (q, tt) args passed) (UlebMoved 𝓤 H A at-mem run .pre to)
-  enters = qed W ((‵ (flft κ q) ⊛ ‵ ftrue) ∷ ‵ (owns (ShrSlice (named 0) κ u8 ∷ usize ∷ ShrSlice (named 0) κ u8 ∷ usize ∷ usize ∷ usize ∷ []) args passed) ∷ []) ∵ join ! $ frame ! $ done !
+  enters =
+      qed W ((‵ (flft κ q) ⊛ ‵ ftrue) ∷
+          ‵ (owns (ShrSlice (named 0) κ u8 ∷ usize ∷ ShrSlice (named 0) κ u8 ∷ usize ∷ usize ∷ usize ∷ []) args passed) ∷ []) ∵
+      join ! $ frame ! $ done !
 
   -- what the callee asks: the token, a copy of what the slices own, and the numbers
-  asked : h .pos < 2 ^ 64 → h .end < 2 ^ 64 → ent 𝓤 (⋆ 𝓤 H A (‵ (flft κ q) ∷ (‵ (Part κ s) ⊛ ‵ (Part κ t)) ∷ [])) (sep 𝓤 (UlebMoved 𝓤 H A at-mem run .pre to) (sep 𝓤 (sem 𝓤 H A (Part κ s)) (sem 𝓤 H A (Part κ t))))
+  asked : h .pos < 2 ^ 64 → h .end < 2 ^ 64 → ent 𝓤 (⋆ 𝓤 H A (‵ (flft κ q) ∷ (‵ (Part κ s) ⊛ ‵ (Part κ t)) ∷ []))
+      (sep 𝓤 (UlebMoved 𝓤 H A at-mem run .pre to) (sep 𝓤 (sem 𝓤 H A (Part κ s)) (sem 𝓤 H A (Part κ t))))
   asked pos-fits end-fits =
       qed W (‵ (flft κ q) ∷ (‵ (Part κ s) ⊛ ‵ (Part κ t)) ∷ []) ∵ nothing ! $
-      owned ! usize (Is usize) (uint-makes 𝓤 H A W w64) (h .end) _ (refl, end-fits) $ fjoin ! $ owned ! usize (Is usize) (uint-makes 𝓤 H A W w64) (h .pos) _ (refl, pos-fits) $ fjoin ! $
-      move ! (2 ∷ 0 ∷ []) $ use2 W (‵ (Four κ s sb t tb Numbers) ⊛ (‵ (Part κ s) ⊛ ‵ (Part κ t))) (four-copy 𝓤 H A W κ s sb t tb Numbers sb-fits tb-fits) $ split ! $
+      owned ! usize (Is usize) (uint-makes 𝓤 H A W w64) (h .end) _ (refl, end-fits) $ fjoin ! $
+      owned ! usize (Is usize) (uint-makes 𝓤 H A W w64) (h .pos) _ (refl, pos-fits) $ fjoin ! $
+      move ! (2 ∷ 0 ∷ []) $
+      use2 W (‵ (Four κ s sb t tb Numbers) ⊛ (‵ (Part κ s) ⊛ ‵ (Part κ t))) (four-copy 𝓤 H A W κ s sb t tb Numbers sb-fits tb-fits) $ split ! $
       -- [what the parameters own; the slices; the token]
       nothing ! $ move ! (3 ∷ 0 ∷ []) $ join ! $ use2 W (raw (UlebMoved 𝓤 H A at-mem run .pre to)) enters $ frame ! $ done !
 
@@ -129,10 +143,13 @@ module _ {M : Type 1} (𝓤 : URA M) (H : Heap 𝓤) (A : Atoms 𝓤) (W : Given
   Lender c = fsep (MutRef (named 1) κ′ B.the-row .own (record { ptr = (b, o); name = γ; now = c }) (vptr b o ∷ [])) ftrue
 
   exits : (m : Moved) → m ≡ movedOf (h .pos) found → Is S.the-row (m .value) (S′.lowered (m .value) ∷ [])
-      → ent 𝓤 (⋆ 𝓤 H A (‵ (fobs γ (B.the-row .coded .code (h′ m))) ∷ ‵ (fbor κ′ (Body (mem B.the-row) b o γ)) ∷ (‵ (flft κ q) ⊛ ‵ ftrue) ∷ ‵ (flft κ′ q′) ∷ (‵ (Part κ s) ⊛ ‵ (Part κ t)) ∷ [])) (Post (S′.lowered (m .value)))
+      → ent 𝓤 (⋆ 𝓤 H A (‵ (fobs γ (B.the-row .coded .code (h′ m))) ∷ ‵ (fbor κ′ (Body (mem B.the-row) b o γ)) ∷ (‵ (flft κ q) ⊛ ‵ ftrue) ∷ ‵
+          (flft κ′ q′) ∷ (‵ (Part κ s) ⊛ ‵ (Part κ t)) ∷ [])) (Post (S′.lowered (m .value)))
   exits m e is =
-      qed W (‵ (fobs γ (B.the-row .coded .code (h′ m))) ∷ ‵ (fbor κ′ (Body (mem B.the-row) b o γ)) ∷ (‵ (flft κ q) ⊛ ‵ ftrue) ∷ ‵ (flft κ′ q′) ∷ (‵ (Part κ s) ⊛ ‵ (Part κ t)) ∷ []) ∵
-      suffices ! _ (ends-at 𝓤 H A uleb.ended stayed (uleb.clauses 𝓤 H A at-mem run) W (((κ, (κ′, tt)), (q, (q′, tt)), tt, x, at), tt) (S′.lowered (m .value)) (m .value) (tt, (tt, (tt, (tt, (h′ m, tt))))) (tt, (tt, (tt, (tt, (tt, tt)))))) $
+      qed W (‵ (fobs γ (B.the-row .coded .code (h′ m))) ∷ ‵ (fbor κ′ (Body (mem B.the-row) b o γ)) ∷ (‵ (flft κ q) ⊛ ‵ ftrue) ∷ ‵ (flft κ′ q′) ∷
+          (‵ (Part κ s) ⊛ ‵ (Part κ t)) ∷ []) ∵
+      suffices ! _ (ends-at 𝓤 H A uleb.ended stayed (uleb.clauses 𝓤 H A at-mem run) W (((κ, (κ′, tt)), (q, (q′, tt)), tt, x, at), tt)
+          (S′.lowered (m .value)) (m .value) (tt, (tt, (tt, (tt, (h′ m, tt))))) (tt, (tt, (tt, (tt, (tt, tt)))))) $
       says ! (ap (λ (n : Moved). n .value) e, ap h′ e) $
       move ! (2 ∷ []) $ split ! $ move ! (4 ∷ 1 ∷ []) $ join ! $ move ! (1 ∷ 0 ∷ []) $ join ! $ frame ! $
       -- [the cursor's last value; its borrow; the slices]
@@ -162,37 +179,63 @@ module _ {M : Type 1} (𝓤 : URA M) (H : Heap 𝓤) (A : Atoms 𝓤) (W : Given
 
   module _ (C : Calls 𝓤 H) (Λ : Loops 𝓤 H) (fm : FmC 𝓤 H (W .laws) C) (known : Triple 𝓤 (C #cursor·uleb-moved) (UlebMoved 𝓤 H A at-mem run)) where
     walk : Is (ShrSlice (named 0) κ u8) s (fat-of s ∷ []) → Is (ShrSlice (named 0) κ u8) t (fat-of t ∷ [])
-        → ent 𝓤 (onEntry 𝓤 H A uleb.signature (κ, (κ′, tt)) (q, (q′, tt)) x at) (WpFn 𝓤 H C Λ code.function (fat-of s ∷ vint w64 sb ∷ fat-of t ∷ vint w64 tb ∷ vptr b o ∷ []) Post)
+        → ent 𝓤 (onEntry 𝓤 H A uleb.signature (κ, (κ′, tt)) (q, (q′, tt)) x at) (WpFn 𝓤 H C Λ code.function
+            (fat-of s ∷ vint w64 sb ∷ fat-of t ∷ vint w64 tb ∷ vptr b o ∷ []) Post)
     walk is-s is-t =
-        qed W ((‵ (flft κ q) ⊛ ‵ (flft κ′ q′) ⊛ ‵ ftrue) ∷ ‵ (owns (ShrSlice (named 0) κ u8 ∷ usize ∷ ShrSlice (named 0) κ u8 ∷ usize ∷ MutRef (named 1) κ′ B.the-row ∷ []) x at) ∷ []) ∵
+        qed W ((‵ (flft κ q) ⊛ ‵ (flft κ′ q′) ⊛ ‵ ftrue) ∷ ‵ (owns (ShrSlice (named 0) κ u8 ∷ usize ∷ ShrSlice (named 0) κ u8 ∷ usize ∷ MutRef
+            (named 1) κ′ B.the-row ∷ []) x at) ∷ []) ∵
         enter ! C Λ code.function (fat-of s ∷ vint w64 sb ∷ fat-of t ∷ vint w64 tb ∷ vptr b o ∷ []) _ $
-        alloc1 ! (λ l₀. alloc1 ! (λ l₁. alloc1 ! (λ l₂. alloc1 ! (λ l₃. alloc1 ! (λ l₄. alloc1 ! (λ l₅. alloc1 ! (λ l₆. alloc1 ! (λ l₇. alloc1 ! (λ l₈. alloc0 ! $ params1 ! $
-        pass1 ! (init ! 14 refl (shr-slice-lawful 𝓤 H A W (named 0) κ u8 .typed s (fat-of s ∷ []) is-s .0)) $ pass1 ! (init ! 12 refl (tt, record { fits = sb-fits })) $
-        pass1 ! (init ! 10 refl (shr-slice-lawful 𝓤 H A W (named 0) κ u8 .typed t (fat-of t ∷ []) is-t .0)) $ pass1 ! (init ! 8 refl (tt, record { fits = tb-fits })) $ pass1 ! (init ! 6 refl (tt, tt)) $ pass0 ! $
+        alloc1 ! (λ l₀. alloc1 ! (λ l₁. alloc1 ! (λ l₂. alloc1 ! (λ l₃. alloc1 !
+            (λ l₄. alloc1 ! (λ l₅. alloc1 ! (λ l₆. alloc1 ! (λ l₇. alloc1 ! (λ l₈. alloc0 ! $
+        params1 ! $
+        pass1 ! (init ! 14 refl (shr-slice-lawful 𝓤 H A W (named 0) κ u8 .typed s (fat-of s ∷ []) is-s .0)) $
+        pass1 ! (init ! 12 refl (tt, record { fits = sb-fits })) $
+        pass1 ! (init ! 10 refl (shr-slice-lawful 𝓤 H A W (named 0) κ u8 .typed t (fat-of t ∷ []) is-t .0)) $
+        pass1 ! (init ! 8 refl (tt, record { fits = tb-fits })) $ pass1 ! (init ! 6 refl (tt, tt)) $ pass0 ! $
         -- what the parameters own is taken apart, and the borrow is opened
-        move ! (19 ∷ []) $ use1 W ((‵ (Part κ s) ⊛ ‵ (Part κ t)) ⊛ ‵ (Lender h)) (four-out 𝓤 H A W κ s sb t tb (Lender h)) $ split ! $ move ! (1 ∷ []) $ fsplit ! $ fsplit3 ! $ drop ! $
+        move ! (19 ∷ []) $ use1 W ((‵ (Part κ s) ⊛ ‵ (Part κ t)) ⊛ ‵ (Lender h)) (four-out 𝓤 H A W κ s sb t tb (Lender h)) $ split ! $
+        move ! (1 ∷ []) $ fsplit ! $ fsplit3 ! $ drop ! $
         move ! (22 ∷ []) $ split ! $ move ! (1 ∷ []) $ split ! $ move ! (3 ∷ 4 ∷ 0 ∷ []) $
-        opens ! tt B.the-row {h = h} b o (λ us. spelt ! B.the-row (Is B.the-row) (shows 𝓤 H A B.the-row) (LL.vals B.the-type B′.the-laws) (LL.tells B.the-type B′.the-laws) fullShare h us b o $
+        opens ! tt B.the-row {h = h} b o (λ us. spelt ! B.the-row (Is B.the-row) (shows 𝓤 H A B.the-row) (LL.vals B.the-type B′.the-laws)
+            (LL.tells B.the-type B′.the-laws) fullShare h us b o $
         move ! (1 ∷ []) $ peeks ! B.the-row (Is B.the-row) (shows 𝓤 H A B.the-row) h (B′.lowered h ∷ []) (λ g. move ! (1 ∷ 0 ∷ []) $
-        -- [the cursor's cell; what it owns; the open borrow; obs; auth; true; 'a's token; true; the slices; _8; …; _7; …; _6; …; _5; …; _4; …; _3; …; _2; …; _1; …; room for _0; …]
-        assigns ! (of-opd ! (load ! (from ! (hop ! (look ! 15 refl) (fld ! refl (stop !)))) (look-in ! 0 (sub ! 0 refl (whole !))))) (from ! (stop !)) (init ! 11 refl (tt, record { fits = pos-fits g })) $
-        assigns ! (of-opd ! (load ! (from ! (hop ! (look ! 15 refl) (fld ! refl (stop !)))) (look-in ! 0 (sub ! 1 refl (whole !))))) (from ! (stop !)) (init ! 9 refl (tt, record { fits = end-fits g })) $
-        move ! (6 ∷ 8 ∷ []) $ use2 W (raw (UlebMoved 𝓤 H A at-mem run .pre to) ⊛ (‵ (Part κ s) ⊛ ‵ (Part κ t))) (asked (pos-fits g) (end-fits g)) $ split ! $
-        calls-at ! fm (UlebMoved 𝓤 H A at-mem run) known to (and-then ! (load ! (from ! (stop !)) (look ! 23 refl)) (and-then ! (load ! (from ! (stop !)) (look ! 21 refl)) (and-then ! (load ! (from ! (stop !)) (look ! 19 refl))
-        (and-then ! (load ! (from ! (stop !)) (look ! 17 refl)) (and-then ! (load ! (from ! (stop !)) (look ! 11 refl)) (and-then ! (load ! (from ! (stop !)) (look ! 9 refl)) (no-more !))))))) (λ u.
-        use1 W (later (some (λ (m : Moved). ((‵ (flft κ q) ⊛ ‵ ftrue) ⊛ ‵ (T.the-row .own m (u ∷ []))) ⊛ raw (ensured 𝓤 H A moved.ended (moved.clauses 𝓤 H A at-mem run) (κ, tt) args tt m)))) (id⊢ 𝓤 _) $ await ! tt $ pick ! (λ m.
-        split ! $ move ! (1 ∷ []) $ use1 W (raw (fact 𝓤 (m ≡ movedOf (h .pos) found))) (said m) $ heard ! (m ≡ movedOf (h .pos) found) (λ e. split ! $ move ! (1 ∷ []) $
-        -- [the answer; 'a's token; the slices; the cursor's cell; what it owns; the open borrow; obs; auth; true; true; _8; …; _7; …; _6; …; _5; …; …]
+        -- [the cursor's cell; what it owns; the open borrow; obs; auth; true; 'a's token; true; the slices; _8; …; _7; …; _6; …;
+        -- _5; …; _4; …; _3; …; _2; …; _1; …; room for _0; …]
+        assigns ! (of-opd ! (load ! (from ! (hop ! (look ! 15 refl) (fld ! refl (stop !)))) (look-in ! 0 (sub ! 0 refl (whole !))))) (from ! (stop !))
+            (init ! 11 refl (tt, record { fits = pos-fits g })) $
+        assigns ! (of-opd ! (load ! (from ! (hop ! (look ! 15 refl) (fld ! refl (stop !)))) (look-in ! 0 (sub ! 1 refl (whole !))))) (from ! (stop !))
+            (init ! 9 refl (tt, record { fits = end-fits g })) $
+        move ! (6 ∷ 8 ∷ []) $ use2 W (raw (UlebMoved 𝓤 H A at-mem run .pre to) ⊛ (‵ (Part κ s) ⊛ ‵ (Part κ t))) (asked (pos-fits g) (end-fits g)) $
+        split ! $
+        calls-at ! fm (UlebMoved 𝓤 H A at-mem run) known to (and-then ! (load ! (from ! (stop !)) (look ! 23 refl))
+            (and-then ! (load ! (from ! (stop !)) (look ! 21 refl)) (and-then ! (load ! (from ! (stop !)) (look ! 19 refl))
+        (and-then ! (load ! (from ! (stop !)) (look ! 17 refl)) (and-then ! (load ! (from ! (stop !)) (look ! 11 refl))
+            (and-then ! (load ! (from ! (stop !)) (look ! 9 refl)) (no-more !))))))) (λ u.
+        use1 W (later (some (λ (m : Moved). ((‵ (flft κ q) ⊛ ‵ ftrue) ⊛ ‵ (T.the-row .own m (u ∷ []))) ⊛ raw
+            (ensured 𝓤 H A moved.ended (moved.clauses 𝓤 H A at-mem run) (κ, tt) args tt m)))) (id⊢ 𝓤 _) $
+        await ! tt $ pick ! (λ m.
+        split ! $ move ! (1 ∷ []) $ use1 W (raw (fact 𝓤 (m ≡ movedOf (h .pos) found))) (said m) $ heard ! (m ≡ movedOf (h .pos) found) (λ e. split ! $
+        move ! (1 ∷ []) $
+        -- [the answer; 'a's token; the slices; the cursor's cell; what it owns; the open borrow; obs; auth; true; true; _8; …; _7;
+        -- …; _6; …; _5; …; …]
         peeks ! T.the-row (Is T.the-row) (shows 𝓤 H A T.the-row) m (u ∷ []) (λ is.
         land ! (from ! (stop !)) (init ! 14 refl (LL.lawful T.the-type T′.the-laws 𝓤 H A W .typed m _ is .0)) $
         rewrite ! 14 (λ (w : Val). ‵ (fat fullShare T′.mir l₆ 0 w)) (ap only (T′.lowers .val-is m _ is)) refl $
-        assigns ! (of-opd ! (load ! (from ! (fld ! refl (stop !))) (look-in ! 14 (sub ! 1 refl (whole !))))) (from ! (hop ! (look ! 16 refl) (fld ! refl (stop !)))) (store-in ! 3 (sub ! 0 refl (whole !)) (tt, record { fits = place-fits m u is })) $
-        assigns ! (of-opd ! (load ! (from ! (fld ! refl (stop !))) (look-in ! 14 (sub ! 0 refl (whole !))))) (from ! (stop !)) (init ! 26 refl (EL.lawful S.the-type S′.the-laws 𝓤 H A W tt .typed (m .value) _ (value-is m u is) .0)) $
+        assigns ! (of-opd ! (load ! (from ! (fld ! refl (stop !))) (look-in ! 14 (sub ! 1 refl (whole !)))))
+            (from ! (hop ! (look ! 16 refl) (fld ! refl (stop !)))) (store-in ! 3 (sub ! 0 refl (whole !)) (tt, record { fits = place-fits m u is }))
+            $
+        assigns ! (of-opd ! (load ! (from ! (fld ! refl (stop !))) (look-in ! 14 (sub ! 0 refl (whole !))))) (from ! (stop !))
+            (init ! 26 refl (EL.lawful S.the-type S′.the-laws 𝓤 H A W tt .typed (m .value) _ (value-is m u is) .0)) $
         -- the borrow is closed at the new cursor
-        move ! (4 ∷ []) $ drop ! $ owned ! B.the-row (Is B.the-row) (LL.makes B.the-type B′.the-plain 𝓤 H A) (h′ m) _ (made m (place-fits m u is) (end-fits g)) $ move ! (4 ∷ 0 ∷ 5 ∷ 6 ∷ 7 ∷ []) $
+        move ! (4 ∷ []) $ drop ! $
+        owned ! B.the-row (Is B.the-row) (LL.makes B.the-type B′.the-plain 𝓤 H A) (h′ m) _ (made m (place-fits m u is) (end-fits g)) $
+        move ! (4 ∷ 0 ∷ 5 ∷ 6 ∷ 7 ∷ []) $
         closes ! tt B.the-row (h′ m) (B′.lowered (h′ m) ∷ []) b o $
-        returns ! (look ! 24 refl) $ forget ! 8 refl $ forget ! 10 refl $ forget ! 12 refl $ forget ! 14 refl $ forget ! 16 refl $ forget ! 18 refl $ forget ! 20 refl $ forget ! 22 refl $ forget ! 24 refl $
-        move ! (24 ∷ 25 ∷ []) $ free1 ! $ move ! (22 ∷ 23 ∷ []) $ free1 ! $ move ! (20 ∷ 21 ∷ []) $ free1 ! $ move ! (18 ∷ 19 ∷ []) $ free1 ! $ move ! (16 ∷ 17 ∷ []) $ free1 ! $ move ! (14 ∷ 15 ∷ []) $ free1 ! $ move ! (12 ∷ 13 ∷ []) $ free1 ! $ move ! (10 ∷ 11 ∷ []) $ free1 ! $ move ! (8 ∷ 9 ∷ []) $ free1 ! $ free0 ! $
+        returns ! (look ! 24 refl) $ forget ! 8 refl $ forget ! 10 refl $ forget ! 12 refl $ forget ! 14 refl $ forget ! 16 refl $ forget ! 18 refl $
+        forget ! 20 refl $ forget ! 22 refl $ forget ! 24 refl $
+        move ! (24 ∷ 25 ∷ []) $ free1 ! $ move ! (22 ∷ 23 ∷ []) $ free1 ! $ move ! (20 ∷ 21 ∷ []) $ free1 ! $ move ! (18 ∷ 19 ∷ []) $ free1 ! $
+        move ! (16 ∷ 17 ∷ []) $ free1 ! $ move ! (14 ∷ 15 ∷ []) $ free1 ! $ move ! (12 ∷ 13 ∷ []) $ free1 ! $ move ! (10 ∷ 11 ∷ []) $ free1 ! $
+        move ! (8 ∷ 9 ∷ []) $ free1 ! $ free0 ! $
         keep ! (0 ∷ 1 ∷ 4 ∷ 2 ∷ 5 ∷ []) $ by ! (exits m e (value-is m u is)))))))))))))))))
 
 module _ {M : Type 1} (𝓤 : URA M) (H : Heap 𝓤) (A : Atoms 𝓤) (W : Given 𝓤 H A) (at-mem : Memory → SProp 𝓤) (run : Routine → Fun 𝓤) where
@@ -200,17 +243,24 @@ module _ {M : Type 1} (𝓤 : URA M) (H : Heap 𝓤) (A : Atoms 𝓤) (W : Given
       → Walks 𝓤 H A uleb.ended stayed (WpFn 𝓤 H C Λ code.function) (uleb.clauses 𝓤 H A at-mem run)
   uleb-walks C Λ fm known = walked 𝓤 H A uleb.ended stayed (uleb.clauses 𝓤 H A at-mem run) (WpFn 𝓤 H C Λ code.function)
       (λ κs. (slice-vals, (uint-vals w64, (slice-vals, (uint-vals w64, (ptr-vals, tt))))))
-      (λ κs. (shr-slice-tells (named 0) (κs .0) u8, (uint-tells w64, (shr-slice-tells (named 0) (κs .0) u8, (uint-tells w64, (mut-tells (named 1) (κs .1 .0) B.the-row, tt))))))
-      (λ κs qs bounds a _ are. via 𝓤 _ (fst∗ 𝓤 _ (emp 𝓤)) (walk 𝓤 H A W at-mem run (κs .0) (κs .1 .0) (qs .0) (qs .1 .0) (a .0) (a .1 .0) (a .1 .1 .0) (a .1 .1 .1 .0) (a .1 .1 .1 .1 .0 .ptr .0) (a .1 .1 .1 .1 .0 .ptr .1) (a .1 .1 .1 .1 .0 .name) (a .1 .1 .1 .1 .0 .now) (are .1 .0 .1) (are .1 .1 .1 .0 .1) C Λ fm known (are .0) (are .1 .1 .0)))
+      (λ κs. (shr-slice-tells (named 0) (κs .0) u8, (uint-tells w64, (shr-slice-tells (named 0) (κs .0) u8,
+          (uint-tells w64, (mut-tells (named 1) (κs .1 .0) B.the-row, tt))))))
+      (λ κs qs bounds a _ are. via 𝓤 _ (fst∗ 𝓤 _ (emp 𝓤)) (walk 𝓤 H A W at-mem run (κs .0) (κs .1 .0) (qs .0) (qs .1 .0) (a .0) (a .1 .0) (a .1 .1 .0)
+          (a .1 .1 .1 .0) (a .1 .1 .1 .1 .0 .ptr .0) (a .1 .1 .1 .1 .0 .ptr .1) (a .1 .1 .1 .1 .0 .name) (a .1 .1 .1 .1 .0 .now) (are .1 .0 .1)
+          (are .1 .1 .1 .0 .1) C Λ fm known (are .0) (are .1 .1 .0)))
 
   goes : AllGo 𝓤 H A W 2 (uleb.signature .params) (uleb.ended .kept) stayed
   goes =
-      (goes-none-slice 𝓤 H A W 2 (0 ∷ []) tt (plain (λ _. u8)) yes, (goes-none 𝓤 H A W 2 (λ _. usize) yes (λ κs x f. refl), (goes-none-slice 𝓤 H A W 2 (0 ∷ []) tt (plain (λ _. u8)) yes, (goes-none 𝓤 H A W 2 (λ _. usize) yes (λ κs x f. refl), (goes-ref 𝓤 H A W 2 1 tt (plain (λ _. B.the-row)), tt)))))
+      (goes-none-slice 𝓤 H A W 2 (0 ∷ []) tt (plain (λ _. u8)) yes, (goes-none 𝓤 H A W 2 (λ _. usize) yes (λ κs x f. refl),
+          (goes-none-slice 𝓤 H A W 2 (0 ∷ []) tt (plain (λ _. u8)) yes, (goes-none 𝓤 H A W 2 (λ _. usize) yes (λ κs x f. refl),
+          (goes-ref 𝓤 H A W 2 1 tt (plain (λ _. B.the-row)), tt)))))
 
-uleb-meets : {M : Type 1} (𝓤 : URA M) (H : Heap 𝓤) (A : Atoms 𝓤) (W : Given 𝓤 H A) (at-mem : Memory → SProp 𝓤) (run : Routine → Fun 𝓤) (𝓣 : Tables 𝓤 H)
+uleb-meets : {M : Type 1} (𝓤 : URA M) (H : Heap 𝓤) (A : Atoms 𝓤) (W : Given 𝓤 H A) (at-mem : Memory → SProp 𝓤) (run : Routine → Fun 𝓤)
+    (𝓣 : Tables 𝓤 H)
     → Triple 𝓤 (𝓣 .C #cursor·uleb-moved) (UlebMoved 𝓤 H A at-mem run)
     → Meets 𝓤 H A uleb.signature (WpFn 𝓤 H (𝓣 .C) (𝓣 .Λ) code.function) (uleb.spec 𝓤 H A at-mem run)
-uleb-meets 𝓤 H A W at-mem run 𝓣 known = walk-meets 𝓤 H A uleb.ended stayed W (goes 𝓤 H A W at-mem run) (uleb.clauses 𝓤 H A at-mem run) (WpFn 𝓤 H (𝓣 .C) (𝓣 .Λ) code.function) (WpFn-mono 𝓤 H (W .laws) 𝓣 code.function)
+uleb-meets 𝓤 H A W at-mem run 𝓣 known = walk-meets 𝓤 H A uleb.ended stayed W (goes 𝓤 H A W at-mem run) (uleb.clauses 𝓤 H A at-mem run)
+    (WpFn 𝓤 H (𝓣 .C) (𝓣 .Λ) code.function) (WpFn-mono 𝓤 H (W .laws) 𝓣 code.function)
     (uleb-walks 𝓤 H A W at-mem run (𝓣 .C) (𝓣 .Λ) (fmOf 𝓤 H (W .laws) 𝓣) known)
 
 pub uleb-spec : {M : Type 1} → stated.statement M
@@ -219,4 +269,5 @@ uleb-spec 𝓤 H 𝓜 𝓖 𝓡 =
     entered 𝓤 H (tripleOf 𝓤 H (𝓖 .A) uleb.signature (uleb.spec 𝓤 H (𝓖 .A) (𝓜 .mem) (𝓡 .run)))
     (tables 𝓤 H 𝓜 𝓡 code.env .C) (tables 𝓤 H 𝓜 𝓡 code.env .Λ) #cursor·uleb code.function (code.unfolded 𝓤 H 𝓜 𝓡)
     (uleb-meets 𝓤 H (𝓖 .A) (givenOf 𝓤 H 𝓜 𝓖) (𝓜 .mem) (𝓡 .run) (tablesOf 𝓤 H 𝓜 (tables 𝓤 H 𝓜 𝓡 code.env))
-    (cited 𝓤 H (UlebMoved 𝓤 H (𝓖 .A) (𝓜 .mem) (𝓡 .run)) 𝓜 𝓡 code.env #cursor·uleb-moved moved-def.routine code.calls-cursor·uleb-moved (moved-thm.met 𝓤 H 𝓜 𝓖 𝓡)))
+    (cited 𝓤 H (UlebMoved 𝓤 H (𝓖 .A) (𝓜 .mem) (𝓡 .run)) 𝓜 𝓡 code.env #cursor·uleb-moved moved-def.routine code.calls-cursor·uleb-moved
+        (moved-thm.met 𝓤 H 𝓜 𝓖 𝓡)))

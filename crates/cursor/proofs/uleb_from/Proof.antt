@@ -1,4 +1,5 @@
--- `cursor::uleb_from` meets its contract: a walk of its MIR, by hand. A cursor is made in a local and lent to `uleb` for a lifetime of that call; it is taken back at its last value, and its place goes to `placed`.
+-- `cursor::uleb_from` meets its contract: a walk of its MIR, by hand. A cursor is made in a local and lent to `uleb` for a lifetime
+-- of that call; it is taken back at its last value, and its place goes to `placed`.
 -- All that the proof knows of `uleb` and of `placed` is that each meets its contract.
 -- Assumes nothing.
 use mathlib.Core.Path.{_≡_, refl, ap, _∙_}
@@ -16,9 +17,11 @@ use prog.Wp.{Heap, Calls, Loops, WpFn, Tables}
 use ghost.Atoms.{Atoms, sem}
 use contract.Monad.{Fun, fact}
 use contract.Running.{givenOf, tables, tablesOf}
-use types.Kit.{Given, ‵, raw, _⊛_, ⋆, some, later, _$_, _∵_, !, qed, by, move, keep, drop, use1, use2, use3, split, join, pick, rewrite, fsplit, fjoin, suffices, frame, await, done}
+use types.Kit.{Given, ‵, raw, _⊛_, ⋆, some, later, _$_, _∵_, !, qed, by, move, keep, drop, use1, use2, use3, split, join, pick, rewrite, fsplit}
+use types.Kit.{fjoin, suffices, frame, await, done}
 use types.Part.{agg, whole, sub, look-in}
-use types.Run.{look, init, forget, stop, fld, from, load, addr, of-opd, and-then, no-more, assigns, land, returns, enter, alloc1, alloc0, params1, pass1, pass0, free1, free0}
+use types.Run.{look, init, forget, stop, fld, from, load, addr, of-opd, and-then, no-more, assigns, land, returns, enter, alloc1, alloc0, params1}
+use types.Run.{pass1, pass0, free1, free0}
 use types.SemTy.{Body}
 use types.Tokens.{lft-new, lft-end}
 use sound.WpLaws.{FmC, fmOf, WpFn-mono}
@@ -72,7 +75,9 @@ use Rattle.cursor.proofs.uleb_from.Code as code
 
 abbrev stayed : Stays (from-pos.ended .signature .params) (from-pos.ended .kept)
 stayed =
-    (stay-none-slice (0 ∷ []) tt (plain (λ _. u8)) yes, (stay-none (λ _. usize) yes, (stay-none-slice (0 ∷ []) tt (plain (λ _. u8)) yes, (stay-none (λ _. usize) yes, (stay-none (λ _. usize) yes, (stay-none (λ _. usize) yes, tt))))))
+    (stay-none-slice (0 ∷ []) tt (plain (λ _. u8)) yes, (stay-none (λ _. usize) yes,
+        (stay-none-slice (0 ∷ []) tt (plain (λ _. u8)) yes, (stay-none (λ _. usize) yes,
+        (stay-none (λ _. usize) yes, (stay-none (λ _. usize) yes, tt))))))
 
 module _ {M : Type 1} (𝓤 : URA M) (H : Heap 𝓤) (A : Atoms 𝓤) (at-mem : Memory → SProp 𝓤) (run : Routine → Fun 𝓤) where
   -- the contracts that the proof cites
@@ -82,7 +87,9 @@ module _ {M : Type 1} (𝓤 : URA M) (H : Heap 𝓤) (A : Atoms 𝓤) (at-mem : 
   abbrev Placed : Contract 𝓤
   Placed = tripleOf 𝓤 H A placed.signature (placed.spec 𝓤 H A at-mem run)
 
-module _ {M : Type 1} (𝓤 : URA M) (H : Heap 𝓤) (A : Atoms 𝓤) (W : Given 𝓤 H A) (at-mem : Memory → SProp 𝓤) (run : Routine → Fun 𝓤) (κ : Lft) (q : Share) (s : RefT (List ℕ)) (sb : ℕ) (t : RefT (List ℕ)) (tb pos limit : ℕ) (sb-fits : sb < 2 ^ 64) (tb-fits : tb < 2 ^ 64) (pos-fits : pos < 2 ^ 64) (limit-fits : limit < 2 ^ 64) where
+module _ {M : Type 1} (𝓤 : URA M) (H : Heap 𝓤) (A : Atoms 𝓤) (W : Given 𝓤 H A) (at-mem : Memory → SProp 𝓤) (run : Routine → Fun 𝓤) (κ : Lft)
+    (q : Share) (s : RefT (List ℕ)) (sb : ℕ) (t : RefT (List ℕ)) (tb pos limit : ℕ) (sb-fits : sb < 2 ^ 64) (tb-fits : tb < 2 ^ 64)
+    (pos-fits : pos < 2 ^ 64) (limit-fits : limit < 2 ^ 64) where
   abbrev Arg : Type 0
   Arg = RefT (List ℕ) × (ℕ × (RefT (List ℕ) × (ℕ × (ℕ × (ℕ × Unit {0})))))
 
@@ -124,12 +131,18 @@ module _ {M : Type 1} (𝓤 : URA M) (H : Heap 𝓤) (A : Atoms 𝓤) (W : Given
 
     enters : ent 𝓤 (onEntry 𝓤 H A uleb.signature (κ, (ν ∷ [], tt)) (q, (fullShare, tt)) args passed) (AtCursor 𝓤 H A at-mem run .pre to)
     enters =
-        qed W ((‵ (flft κ q) ⊛ ‵ (flft (ν ∷ []) fullShare) ⊛ ‵ ftrue) ∷ ‵ (owns (ShrSlice (named 0) κ u8 ∷ usize ∷ ShrSlice (named 0) κ u8 ∷ usize ∷ MutRef (named 1) (ν ∷ []) B.the-row ∷ []) args passed) ∷ []) ∵ join ! $ frame ! $ done !
+        qed W ((‵ (flft κ q) ⊛ ‵ (flft (ν ∷ []) fullShare) ⊛ ‵ ftrue) ∷ ‵ (owns (ShrSlice (named 0) κ u8 ∷ usize ∷ ShrSlice (named 0) κ u8 ∷ usize ∷
+            MutRef (named 1) (ν ∷ []) B.the-row ∷ []) args passed) ∷ []) ∵ join ! $
+        frame ! $ done !
 
-    asked : ent 𝓤 (⋆ 𝓤 H A ((‵ (flft κ q) ⊛ ‵ (flft (ν ∷ []) fullShare) ⊛ ‵ ftrue) ∷ ‵ Lent ∷ (‵ (Part κ s) ⊛ ‵ (Part κ t)) ∷ [])) (sep 𝓤 (AtCursor 𝓤 H A at-mem run .pre to) (sep 𝓤 (sem 𝓤 H A (Part κ s)) (sem 𝓤 H A (Part κ t))))
+    asked : ent 𝓤 (⋆ 𝓤 H A ((‵ (flft κ q) ⊛ ‵ (flft (ν ∷ []) fullShare) ⊛ ‵ ftrue) ∷ ‵ Lent ∷ (‵ (Part κ s) ⊛ ‵ (Part κ t)) ∷ []))
+        (sep 𝓤 (AtCursor 𝓤 H A at-mem run .pre to) (sep 𝓤 (sem 𝓤 H A (Part κ s)) (sem 𝓤 H A (Part κ t))))
     asked =
         qed W ((‵ (flft κ q) ⊛ ‵ (flft (ν ∷ []) fullShare) ⊛ ‵ ftrue) ∷ ‵ Lent ∷ (‵ (Part κ s) ⊛ ‵ (Part κ t)) ∷ []) ∵
-        nothing ! $ move ! (2 ∷ 0 ∷ []) $ fjoin ! $ move ! (2 ∷ 0 ∷ []) $ use2 W (‵ (Four κ s sb t tb (fsep Lent ftrue)) ⊛ (‵ (Part κ s) ⊛ ‵ (Part κ t))) (four-copy 𝓤 H A W κ s sb t tb (fsep Lent ftrue) sb-fits tb-fits) $ split ! $
+        nothing ! $ move ! (2 ∷ 0 ∷ []) $ fjoin ! $ move ! (2 ∷ 0 ∷ []) $
+        use2 W (‵ (Four κ s sb t tb (fsep Lent ftrue)) ⊛ (‵ (Part κ s) ⊛ ‵ (Part κ t)))
+            (four-copy 𝓤 H A W κ s sb t tb (fsep Lent ftrue) sb-fits tb-fits) $
+        split ! $
         -- [what the parameters own; the slices; the tokens]
         move ! (2 ∷ 0 ∷ []) $ use2 W (raw (AtCursor 𝓤 H A at-mem run .pre to)) enters $ frame ! $ done !
 
@@ -137,11 +150,14 @@ module _ {M : Type 1} (𝓤 : URA M) (H : Heap 𝓤) (A : Atoms 𝓤) (W : Given
   abbrev to-placed : Value → Val → ℕ → Placed 𝓤 H A at-mem run .Ghost
   to-placed r u p = ((tt, tt, tt, (r, (p, tt)), (u ∷ [], (vint w64 p ∷ [], tt))), tt)
 
-  goes-placed : (r : Value) (u : Val) (p : ℕ) → p < 2 ^ 64 → ent 𝓤 (sem 𝓤 H A (S.the-row .own r (u ∷ []))) (Placed 𝓤 H A at-mem run .pre (to-placed r u p))
+  goes-placed : (r : Value) (u : Val) (p : ℕ) → p < 2 ^ 64 → ent 𝓤 (sem 𝓤 H A (S.the-row .own r (u ∷ [])))
+      (Placed 𝓤 H A at-mem run .pre (to-placed r u p))
   goes-placed r u p fits =
-      qed W (‵ (S.the-row .own r (u ∷ [])) ∷ []) ∵ nothing ! $ owned ! usize (Is usize) (uint-makes 𝓤 H A W w64) p _ (refl, fits) $ fjoin ! $ move ! (1 ∷ 0 ∷ []) $ fjoin ! $ nothing ! $ join ! $ frame ! $ done !
+      qed W (‵ (S.the-row .own r (u ∷ [])) ∷ []) ∵ nothing ! $ owned ! usize (Is usize) (uint-makes 𝓤 H A W w64) p _ (refl, fits) $ fjoin ! $
+      move ! (1 ∷ 0 ∷ []) $ fjoin ! $ nothing ! $ join ! $ frame ! $ done !
 
-  placed-said : (r : Value) (p : ℕ) (a : Uleb) → ent 𝓤 (ensured 𝓤 H A placed.ended (placed.clauses 𝓤 H A at-mem run) tt (r, (p, tt)) tt a) (fact 𝓤 (a ≡ Cursor.placed p r))
+  placed-said : (r : Value) (p : ℕ) (a : Uleb) → ent 𝓤 (ensured 𝓤 H A placed.ended (placed.clauses 𝓤 H A at-mem run) tt (r, (p, tt)) tt a)
+      (fact 𝓤 (a ≡ Cursor.placed p r))
   placed-said r p a = exE 𝓤 _ (λ ws. snd∗ 𝓤 (sem 𝓤 H A (lasts placed.ended tt (r, (p, tt)) ws)) (fact 𝓤 (a ≡ Cursor.placed p r)))
 
   -- the value that was read and the cursor's place are the answer
@@ -152,13 +168,17 @@ module _ {M : Type 1} (𝓤 : URA M) (H : Heap 𝓤) (A : Atoms 𝓤) (W : Given
   abbrev Numbers : Fml
   Numbers = fsep (usize .own pos (vint w64 pos ∷ [])) (fsep (usize .own limit (vint w64 limit ∷ [])) ftrue)
 
-  exits : (a : Uleb) (z : Val) → a ≡ found → ent 𝓤 (⋆ 𝓤 H A (‵ (U.the-row .own a (z ∷ [])) ∷ ‵ (flft κ q) ∷ (‵ (Part κ s) ⊛ ‵ (Part κ t)) ∷ [])) (Post z)
+  exits : (a : Uleb) (z : Val) → a ≡ found → ent 𝓤 (⋆ 𝓤 H A (‵ (U.the-row .own a (z ∷ [])) ∷ ‵ (flft κ q) ∷ (‵ (Part κ s) ⊛ ‵ (Part κ t)) ∷ []))
+      (Post z)
   exits a z e =
       qed W (‵ (U.the-row .own a (z ∷ [])) ∷ ‵ (flft κ q) ∷ (‵ (Part κ s) ⊛ ‵ (Part κ t)) ∷ []) ∵
-      suffices ! _ (ends-at 𝓤 H A from-pos.ended stayed (from-pos.clauses 𝓤 H A at-mem run) W (((κ, tt), (q, tt), tt, x, at), tt) z a (tt, (tt, (tt, (tt, (tt, (tt, tt)))))) (tt, (tt, (tt, (tt, (tt, (tt, tt))))))) $ says ! e $
+      suffices ! _ (ends-at 𝓤 H A from-pos.ended stayed (from-pos.clauses 𝓤 H A at-mem run) W (((κ, tt), (q, tt), tt, x, at), tt) z a
+          (tt, (tt, (tt, (tt, (tt, (tt, tt)))))) (tt, (tt, (tt, (tt, (tt, (tt, tt))))))) $
+      says ! e $
       nothing ! $ move ! (2 ∷ 0 ∷ []) $ join ! $ frame ! $
       -- [the answer; the slices]
-      nothing ! $ owned ! usize (Is usize) (uint-makes 𝓤 H A W w64) limit _ (refl, limit-fits) $ fjoin ! $ owned ! usize (Is usize) (uint-makes 𝓤 H A W w64) pos _ (refl, pos-fits) $ fjoin ! $
+      nothing ! $ owned ! usize (Is usize) (uint-makes 𝓤 H A W w64) limit _ (refl, limit-fits) $ fjoin ! $
+      owned ! usize (Is usize) (uint-makes 𝓤 H A W w64) pos _ (refl, pos-fits) $ fjoin ! $
       move ! (2 ∷ 0 ∷ []) $ use2 W (‵ (Four κ s sb t tb Numbers)) (four-in 𝓤 H A W κ s sb t tb Numbers sb-fits tb-fits) $ done !
 
   -- what the call of `uleb` says at exit: nothing of the slices and the numbers, and the cursor's last value
@@ -168,32 +188,50 @@ module _ {M : Type 1} (𝓤 : URA M) (H : Heap 𝓤) (A : Atoms 𝓤) (W : Given
   place-fits : (b : Bytes) (w : Val) → Is B.the-row b (w ∷ []) → b .pos < 2 ^ 64
   place-fits b w is = LL.owed B.the-type B′.the-laws b _ is .0 .1
 
-  module _ (C : Calls 𝓤 H) (Λ : Loops 𝓤 H) (fm : FmC 𝓤 H (W .laws) C) (known-uleb : Triple 𝓤 (C #cursor·uleb) (AtCursor 𝓤 H A at-mem run)) (known-placed : Triple 𝓤 (C #cursor·placed) (Placed 𝓤 H A at-mem run)) where
+  module _ (C : Calls 𝓤 H) (Λ : Loops 𝓤 H) (fm : FmC 𝓤 H (W .laws) C) (known-uleb : Triple 𝓤 (C #cursor·uleb) (AtCursor 𝓤 H A at-mem run))
+      (known-placed : Triple 𝓤 (C #cursor·placed) (Placed 𝓤 H A at-mem run)) where
     walk : Is (ShrSlice (named 0) κ u8) s (fat-of s ∷ []) → Is (ShrSlice (named 0) κ u8) t (fat-of t ∷ [])
-        → ent 𝓤 (onEntry 𝓤 H A from-pos.signature (κ, tt) (q, tt) x at) (WpFn 𝓤 H C Λ code.function (fat-of s ∷ vint w64 sb ∷ fat-of t ∷ vint w64 tb ∷ vint w64 pos ∷ vint w64 limit ∷ []) Post)
+        → ent 𝓤 (onEntry 𝓤 H A from-pos.signature (κ, tt) (q, tt) x at) (WpFn 𝓤 H C Λ code.function
+            (fat-of s ∷ vint w64 sb ∷ fat-of t ∷ vint w64 tb ∷ vint w64 pos ∷ vint w64 limit ∷ []) Post)
     walk is-s is-t =
-        qed W ((‵ (flft κ q) ⊛ ‵ ftrue) ∷ ‵ (owns (ShrSlice (named 0) κ u8 ∷ usize ∷ ShrSlice (named 0) κ u8 ∷ usize ∷ usize ∷ usize ∷ []) x at) ∷ []) ∵
+        qed W ((‵ (flft κ q) ⊛ ‵ ftrue) ∷ ‵ (owns (ShrSlice (named 0) κ u8 ∷ usize ∷ ShrSlice (named 0) κ u8 ∷ usize ∷ usize ∷ usize ∷ []) x at) ∷ [])
+            ∵
         enter ! C Λ code.function (fat-of s ∷ vint w64 sb ∷ fat-of t ∷ vint w64 tb ∷ vint w64 pos ∷ vint w64 limit ∷ []) _ $
-        alloc1 ! (λ l₀. alloc1 ! (λ l₁. alloc1 ! (λ l₂. alloc1 ! (λ l₃. alloc1 ! (λ l₄. alloc1 ! (λ l₅. alloc1 ! (λ l₆. alloc1 ! (λ l₇. alloc1 ! (λ l₈. alloc1 ! (λ l₉. alloc1 ! (λ l₁₀. alloc0 ! $ params1 ! $
-        pass1 ! (init ! 18 refl (shr-slice-lawful 𝓤 H A W (named 0) κ u8 .typed s (fat-of s ∷ []) is-s .0)) $ pass1 ! (init ! 16 refl (tt, record { fits = sb-fits })) $
-        pass1 ! (init ! 14 refl (shr-slice-lawful 𝓤 H A W (named 0) κ u8 .typed t (fat-of t ∷ []) is-t .0)) $ pass1 ! (init ! 12 refl (tt, record { fits = tb-fits })) $
+        alloc1 ! (λ l₀. alloc1 ! (λ l₁. alloc1 ! (λ l₂. alloc1 ! (λ l₃. alloc1 !
+            (λ l₄. alloc1 ! (λ l₅. alloc1 ! (λ l₆. alloc1 ! (λ l₇. alloc1 ! (λ l₈. alloc1 ! (λ l₉. alloc1 ! (λ l₁₀. alloc0 ! $
+        params1 ! $
+        pass1 ! (init ! 18 refl (shr-slice-lawful 𝓤 H A W (named 0) κ u8 .typed s (fat-of s ∷ []) is-s .0)) $
+        pass1 ! (init ! 16 refl (tt, record { fits = sb-fits })) $
+        pass1 ! (init ! 14 refl (shr-slice-lawful 𝓤 H A W (named 0) κ u8 .typed t (fat-of t ∷ []) is-t .0)) $
+        pass1 ! (init ! 12 refl (tt, record { fits = tb-fits })) $
         pass1 ! (init ! 10 refl (tt, record { fits = pos-fits })) $ pass1 ! (init ! 8 refl (tt, record { fits = limit-fits })) $ pass0 ! $
         -- the cursor is made
-        assigns ! (agg ! (and-then ! (load ! (from ! (stop !)) (look ! 10 refl)) (and-then ! (load ! (from ! (stop !)) (look ! 8 refl)) (no-more !)))) (from ! (stop !)) (init ! 6 refl (tt, (record { fits = pos-fits }, (record { fits = limit-fits }, tt)))) $
+        assigns ! (agg ! (and-then ! (load ! (from ! (stop !)) (look ! 10 refl)) (and-then ! (load ! (from ! (stop !)) (look ! 8 refl)) (no-more !))))
+            (from ! (stop !)) (init ! 6 refl (tt, (record { fits = pos-fits }, (record { fits = limit-fits }, tt)))) $
         assigns ! (addr ! (from ! (stop !))) (from ! (stop !)) (init ! 2 refl (tt, tt)) $
-        move ! (23 ∷ []) $ use1 W ((‵ (Part κ s) ⊛ ‵ (Part κ t)) ⊛ ‵ Numbers) (four-out 𝓤 H A W κ s sb t tb Numbers) $ split ! $ move ! (1 ∷ []) $ drop ! $ move ! (23 ∷ []) $ split ! $
+        move ! (23 ∷ []) $ use1 W ((‵ (Part κ s) ⊛ ‵ (Part κ t)) ⊛ ‵ Numbers) (four-out 𝓤 H A W κ s sb t tb Numbers) $ split ! $ move ! (1 ∷ []) $
+        drop ! $ move ! (23 ∷ []) $ split ! $
         -- [the token; true; the slices; _10; …; _9; …; _8; …; _7; …; _6; …; _5; …; _4; …; _3; …; _2; …; _1; …; room for _0; …]
         -- and lent for a new lifetime
         move ! (9 ∷ []) $ owned ! B.the-row (Is B.the-row) (LL.makes B.the-type B′.the-plain 𝓤 H A) h _ made $ move ! (1 ∷ 0 ∷ []) $
-        use2 W (‵ (partAt B.the-row fullShare h l₇ 0)) (part-in 𝓤 H A W B.the-row refl fullShare h l₇ 0 (B′.lowered h)) $ lft-new ! tt (λ ν. move ! (1 ∷ []) $
-        use1 W (later (some (λ (δ : GName). ‵ (Lent l₇ ν δ) ⊛ ‵ (flent (ν ∷ []) (Body (mem B.the-row) l₇ 0 δ))))) (lends-ref 𝓤 H A W B.the-row (named 1) (ν ∷ []) h l₇ 0) $ await ! tt $ pick ! (λ δ. split ! $
+        use2 W (‵ (partAt B.the-row fullShare h l₇ 0)) (part-in 𝓤 H A W B.the-row refl fullShare h l₇ 0 (B′.lowered h)) $
+        lft-new ! tt (λ ν. move ! (1 ∷ []) $
+        use1 W (later (some (λ (δ : GName). ‵ (Lent l₇ ν δ) ⊛ ‵ (flent (ν ∷ []) (Body (mem B.the-row) l₇ 0 δ)))))
+            (lends-ref 𝓤 H A W B.the-row (named 1) (ν ∷ []) h l₇ 0) $
+        await ! tt $ pick ! (λ δ. split ! $
         move ! (2 ∷ 4 ∷ []) $ join ! $ move ! (3 ∷ 0 ∷ []) $ join ! $ move ! (0 ∷ 1 ∷ 3 ∷ []) $
         use3 W (raw (AtCursor 𝓤 H A at-mem run .pre (to l₇ ν δ)) ⊛ (‵ (Part κ s) ⊛ ‵ (Part κ t))) (asked l₇ ν δ) $ split ! $
         -- [what `uleb` asks; the slices; the lender's part; _10; …; _9; …; _8; …; _7's end; _6; …; _5; …; _4; …; _3; …; _2; …; _1; …; room for _0; …]
-        calls-at ! fm (AtCursor 𝓤 H A at-mem run) known-uleb (to l₇ ν δ) (and-then ! (load ! (from ! (stop !)) (look ! 20 refl)) (and-then ! (load ! (from ! (stop !)) (look ! 18 refl)) (and-then ! (load ! (from ! (stop !)) (look ! 16 refl))
+        calls-at ! fm (AtCursor 𝓤 H A at-mem run) known-uleb (to l₇ ν δ) (and-then ! (load ! (from ! (stop !)) (look ! 20 refl))
+            (and-then ! (load ! (from ! (stop !)) (look ! 18 refl)) (and-then ! (load ! (from ! (stop !)) (look ! 16 refl))
         (and-then ! (load ! (from ! (stop !)) (look ! 14 refl)) (and-then ! (load ! (from ! (stop !)) (look ! 5 refl)) (no-more !)))))) (λ u.
-        use1 W (later (some (λ (r : Value). ((‵ (flft κ q) ⊛ ‵ (flft (ν ∷ []) fullShare) ⊛ ‵ ftrue) ⊛ ‵ (S.the-row .own r (u ∷ []))) ⊛ raw (ensured 𝓤 H A uleb.ended (uleb.clauses 𝓤 H A at-mem run) (κ, (ν ∷ [], tt)) (args l₇ ν δ) tt r)))) (id⊢ 𝓤 _) $ await ! tt $ pick ! (λ r.
-        split ! $ move ! (1 ∷ []) $ use1 W (some (λ (ws : Last). ‵ (lasts uleb.ended (κ, (ν ∷ [], tt)) (args l₇ ν δ) ws) ⊛ raw (fact 𝓤 ((r ≡ valueOf found) × (ws .1 .1 .1 .1 .0 ≡ past h found))))) (id⊢ 𝓤 _) $ pick ! (λ ws.
+        use1 W (later (some (λ (r : Value). ((‵ (flft κ q) ⊛ ‵ (flft (ν ∷ []) fullShare) ⊛ ‵ ftrue) ⊛ ‵ (S.the-row .own r (u ∷ []))) ⊛ raw
+            (ensured 𝓤 H A uleb.ended (uleb.clauses 𝓤 H A at-mem run) (κ, (ν ∷ [], tt)) (args l₇ ν δ) tt r)))) (id⊢ 𝓤 _) $
+        await ! tt $ pick ! (λ r.
+        split ! $ move ! (1 ∷ []) $
+        use1 W (some (λ (ws : Last). ‵ (lasts uleb.ended (κ, (ν ∷ [], tt)) (args l₇ ν δ) ws) ⊛ raw
+            (fact 𝓤 ((r ≡ valueOf found) × (ws .1 .1 .1 .1 .0 ≡ past h found))))) (id⊢ 𝓤 _) $
+        pick ! (λ ws.
         split ! $ move ! (1 ∷ []) $ heard ! ((r ≡ valueOf found) × (ws .1 .1 .1 .1 .0 ≡ past h found)) (λ e.
         fsplit ! $ drop ! $ fsplit ! $ drop ! $ fsplit ! $ drop ! $ fsplit ! $ drop ! $ fsplit ! $ move ! (2 ∷ []) $ split ! $ move ! (1 ∷ []) $
         -- [what was read; the tokens; the cursor's last value; true; the slices; the lender's part; _10; …; _9; …; _8; …; …]
@@ -201,39 +239,60 @@ module _ {M : Type 1} (𝓤 : URA M) (H : Heap 𝓤) (A : Atoms 𝓤) (W : Given
         land ! (from ! (stop !)) (init ! 10 refl (EL.lawful S.the-type S′.the-laws 𝓤 H A W tt .typed r _ is .0)) $
         -- the lifetime is ended, and the cursor is taken back at its last value
         move ! (1 ∷ []) $ split ! $ move ! (1 ∷ []) $ split ! $ lft-end ! tt $ move ! (0 ∷ 7 ∷ 4 ∷ []) $
-        use3 W (later (‵ (partAt B.the-row fullShare (ws .1 .1 .1 .1 .0) l₇ 0))) (ref-back 𝓤 H A W B.the-row (ν ∷ []) δ (ws .1 .1 .1 .1 .0) l₇ 0) $ await ! tt $
-        use1 W (some (λ (w : Val). ‵ (fat fullShare B′.mir l₇ 0 w) ⊛ ‵ (B.the-row .own (ws .1 .1 .1 .1 .0) (w ∷ [])))) (part-out 𝓤 H A W B.the-row refl fullShare (ws .1 .1 .1 .1 .0) l₇ 0) $ pick ! (λ w. split ! $
+        use3 W (later (‵ (partAt B.the-row fullShare (ws .1 .1 .1 .1 .0) l₇ 0))) (ref-back 𝓤 H A W B.the-row (ν ∷ []) δ (ws .1 .1 .1 .1 .0) l₇ 0) $
+        await ! tt $
+        use1 W (some (λ (w : Val). ‵ (fat fullShare B′.mir l₇ 0 w) ⊛ ‵ (B.the-row .own (ws .1 .1 .1 .1 .0) (w ∷ []))))
+            (part-out 𝓤 H A W B.the-row refl fullShare (ws .1 .1 .1 .1 .0) l₇ 0) $
+        pick ! (λ w. split ! $
         move ! (1 ∷ []) $ peeks ! B.the-row (Is B.the-row) (shows 𝓤 H A B.the-row) (ws .1 .1 .1 .1 .0) (w ∷ []) (λ is-b.
         rewrite ! 1 (λ (y : Val). ‵ (fat fullShare B′.mir l₇ 0 y)) (ap only (LL.tells B.the-type B′.the-laws (ws .1 .1 .1 .1 .0) _ is-b)) refl $
         -- [what the cursor owns; its cell; true; the token; what was read; true; the slices; _10; …; _9; …; _8; …; _7's end; _6; …; …]
-        assigns ! (of-opd ! (load ! (from ! (fld ! refl (stop !))) (look-in ! 1 (sub ! 0 refl (whole !))))) (from ! (stop !)) (init ! 7 refl (tt, record { fits = place-fits (ws .1 .1 .1 .1 .0) w is-b })) $
-        move ! (4 ∷ []) $ use1 W (raw (Placed 𝓤 H A at-mem run .pre (to-placed r u (ws .1 .1 .1 .1 .0 .pos)))) (goes-placed r u (ws .1 .1 .1 .1 .0 .pos) (place-fits (ws .1 .1 .1 .1 .0) w is-b)) $
-        calls-at ! fm (Placed 𝓤 H A at-mem run) known-placed (to-placed r u (ws .1 .1 .1 .1 .0 .pos)) (and-then ! (load ! (from ! (stop !)) (look ! 11 refl)) (and-then ! (load ! (from ! (stop !)) (look ! 7 refl)) (no-more !))) (λ z.
-        use1 W (later (some (λ (a : Uleb). (‵ ftrue ⊛ ‵ (U.the-row .own a (z ∷ []))) ⊛ raw (ensured 𝓤 H A placed.ended (placed.clauses 𝓤 H A at-mem run) tt (r, (ws .1 .1 .1 .1 .0 .pos, tt)) tt a)))) (id⊢ 𝓤 _) $ await ! tt $ pick ! (λ a.
-        split ! $ move ! (1 ∷ []) $ use1 W (raw (fact 𝓤 (a ≡ Cursor.placed (ws .1 .1 .1 .1 .0 .pos) r))) (placed-said r (ws .1 .1 .1 .1 .0 .pos) a) $ heard ! (a ≡ Cursor.placed (ws .1 .1 .1 .1 .0 .pos) r) (λ e′. split ! $ move ! (1 ∷ []) $
+        assigns ! (of-opd ! (load ! (from ! (fld ! refl (stop !))) (look-in ! 1 (sub ! 0 refl (whole !))))) (from ! (stop !))
+            (init ! 7 refl (tt, record { fits = place-fits (ws .1 .1 .1 .1 .0) w is-b })) $
+        move ! (4 ∷ []) $
+        use1 W (raw (Placed 𝓤 H A at-mem run .pre (to-placed r u (ws .1 .1 .1 .1 .0 .pos))))
+            (goes-placed r u (ws .1 .1 .1 .1 .0 .pos) (place-fits (ws .1 .1 .1 .1 .0) w is-b)) $
+        calls-at ! fm (Placed 𝓤 H A at-mem run) known-placed (to-placed r u (ws .1 .1 .1 .1 .0 .pos))
+            (and-then ! (load ! (from ! (stop !)) (look ! 11 refl)) (and-then ! (load ! (from ! (stop !)) (look ! 7 refl)) (no-more !))) (λ z.
+        use1 W (later (some (λ (a : Uleb). (‵ ftrue ⊛ ‵ (U.the-row .own a (z ∷ []))) ⊛ raw
+            (ensured 𝓤 H A placed.ended (placed.clauses 𝓤 H A at-mem run) tt (r, (ws .1 .1 .1 .1 .0 .pos, tt)) tt a)))) (id⊢ 𝓤 _) $
+        await ! tt $ pick ! (λ a.
+        split ! $ move ! (1 ∷ []) $ use1 W (raw (fact 𝓤 (a ≡ Cursor.placed (ws .1 .1 .1 .1 .0 .pos) r))) (placed-said r (ws .1 .1 .1 .1 .0 .pos) a) $
+        heard ! (a ≡ Cursor.placed (ws .1 .1 .1 .1 .0 .pos) r) (λ e′. split ! $ move ! (1 ∷ []) $
         -- [the answer; true; what the cursor owns; its cell; true; the token; true; the slices; _10; …; _9; …; _8; …; _7's end; _6; …; …]
         peeks ! U.the-row (Is U.the-row) (shows 𝓤 H A U.the-row) a (z ∷ []) (λ is-u.
         land ! (from ! (stop !)) (init ! 27 refl (EL.lawful U.the-type U′.the-laws 𝓤 H A W tt .typed a _ is-u .0)) $
-        returns ! (look ! 27 refl) $ forget ! 3 refl $ forget ! 8 refl $ forget ! 10 refl $ forget ! 12 refl $ forget ! 15 refl $ forget ! 17 refl $ forget ! 19 refl $ forget ! 21 refl $ forget ! 23 refl $ forget ! 25 refl $ forget ! 27 refl $
-        move ! (27 ∷ 28 ∷ []) $ free1 ! $ move ! (25 ∷ 26 ∷ []) $ free1 ! $ move ! (23 ∷ 24 ∷ []) $ free1 ! $ move ! (21 ∷ 22 ∷ []) $ free1 ! $ move ! (19 ∷ 20 ∷ []) $ free1 ! $ move ! (17 ∷ 18 ∷ []) $ free1 ! $ move ! (15 ∷ 16 ∷ []) $ free1 ! $ move ! (3 ∷ 14 ∷ []) $ free1 ! $ move ! (11 ∷ 12 ∷ []) $ free1 ! $ move ! (9 ∷ 10 ∷ []) $ free1 ! $ move ! (7 ∷ 8 ∷ []) $ free1 ! $ free0 ! $
+        returns ! (look ! 27 refl) $ forget ! 3 refl $ forget ! 8 refl $ forget ! 10 refl $ forget ! 12 refl $ forget ! 15 refl $ forget ! 17 refl $
+        forget ! 19 refl $ forget ! 21 refl $ forget ! 23 refl $ forget ! 25 refl $ forget ! 27 refl $
+        move ! (27 ∷ 28 ∷ []) $ free1 ! $ move ! (25 ∷ 26 ∷ []) $ free1 ! $ move ! (23 ∷ 24 ∷ []) $ free1 ! $ move ! (21 ∷ 22 ∷ []) $ free1 ! $
+        move ! (19 ∷ 20 ∷ []) $ free1 ! $ move ! (17 ∷ 18 ∷ []) $ free1 ! $ move ! (15 ∷ 16 ∷ []) $ free1 ! $ move ! (3 ∷ 14 ∷ []) $ free1 ! $
+        move ! (11 ∷ 12 ∷ []) $ free1 ! $ move ! (9 ∷ 10 ∷ []) $ free1 ! $ move ! (7 ∷ 8 ∷ []) $ free1 ! $ free0 ! $
         keep ! (0 ∷ 4 ∷ 6 ∷ []) $ by ! (exits a z (answer r (ws .1 .1 .1 .1 .0) a e e′))))))))))))))))))))))))))
 
 module _ {M : Type 1} (𝓤 : URA M) (H : Heap 𝓤) (A : Atoms 𝓤) (W : Given 𝓤 H A) (at-mem : Memory → SProp 𝓤) (run : Routine → Fun 𝓤) where
-  uleb-from-walks : (C : Calls 𝓤 H) (Λ : Loops 𝓤 H) → FmC 𝓤 H (W .laws) C → Triple 𝓤 (C #cursor·uleb) (AtCursor 𝓤 H A at-mem run) → Triple 𝓤 (C #cursor·placed) (Placed 𝓤 H A at-mem run)
+  uleb-from-walks : (C : Calls 𝓤 H) (Λ : Loops 𝓤 H) → FmC 𝓤 H (W .laws) C → Triple 𝓤 (C #cursor·uleb) (AtCursor 𝓤 H A at-mem run) → Triple 𝓤
+      (C #cursor·placed) (Placed 𝓤 H A at-mem run)
       → Walks 𝓤 H A from-pos.ended stayed (WpFn 𝓤 H C Λ code.function) (from-pos.clauses 𝓤 H A at-mem run)
   uleb-from-walks C Λ fm known-uleb known-placed = walked 𝓤 H A from-pos.ended stayed (from-pos.clauses 𝓤 H A at-mem run) (WpFn 𝓤 H C Λ code.function)
       (λ κs. (slice-vals, (uint-vals w64, (slice-vals, (uint-vals w64, (uint-vals w64, (uint-vals w64, tt)))))))
-      (λ κs. (shr-slice-tells (named 0) (κs .0) u8, (uint-tells w64, (shr-slice-tells (named 0) (κs .0) u8, (uint-tells w64, (uint-tells w64, (uint-tells w64, tt)))))))
-      (λ κs qs bounds a _ are. via 𝓤 _ (fst∗ 𝓤 _ (emp 𝓤)) (walk 𝓤 H A W at-mem run (κs .0) (qs .0) (a .0) (a .1 .0) (a .1 .1 .0) (a .1 .1 .1 .0) (a .1 .1 .1 .1 .0) (a .1 .1 .1 .1 .1 .0) (are .1 .0 .1) (are .1 .1 .1 .0 .1) (are .1 .1 .1 .1 .0 .1) (are .1 .1 .1 .1 .1 .0 .1) C Λ fm known-uleb known-placed (are .0) (are .1 .1 .0)))
+      (λ κs. (shr-slice-tells (named 0) (κs .0) u8, (uint-tells w64, (shr-slice-tells (named 0) (κs .0) u8,
+          (uint-tells w64, (uint-tells w64, (uint-tells w64, tt)))))))
+      (λ κs qs bounds a _ are. via 𝓤 _ (fst∗ 𝓤 _ (emp 𝓤)) (walk 𝓤 H A W at-mem run (κs .0) (qs .0) (a .0) (a .1 .0) (a .1 .1 .0) (a .1 .1 .1 .0)
+          (a .1 .1 .1 .1 .0) (a .1 .1 .1 .1 .1 .0) (are .1 .0 .1) (are .1 .1 .1 .0 .1) (are .1 .1 .1 .1 .0 .1) (are .1 .1 .1 .1 .1 .0 .1) C Λ fm
+          known-uleb known-placed (are .0) (are .1 .1 .0)))
 
   goes : AllGo 𝓤 H A W 1 (from-pos.signature .params) (from-pos.ended .kept) stayed
   goes =
-      (goes-none-slice 𝓤 H A W 1 (0 ∷ []) tt (plain (λ _. u8)) yes, (goes-none 𝓤 H A W 1 (λ _. usize) yes (λ κs x f. refl), (goes-none-slice 𝓤 H A W 1 (0 ∷ []) tt (plain (λ _. u8)) yes, (goes-none 𝓤 H A W 1 (λ _. usize) yes (λ κs x f. refl), (goes-none 𝓤 H A W 1 (λ _. usize) yes (λ κs x f. refl), (goes-none 𝓤 H A W 1 (λ _. usize) yes (λ κs x f. refl), tt))))))
+      (goes-none-slice 𝓤 H A W 1 (0 ∷ []) tt (plain (λ _. u8)) yes, (goes-none 𝓤 H A W 1 (λ _. usize) yes (λ κs x f. refl),
+          (goes-none-slice 𝓤 H A W 1 (0 ∷ []) tt (plain (λ _. u8)) yes, (goes-none 𝓤 H A W 1 (λ _. usize) yes (λ κs x f. refl),
+          (goes-none 𝓤 H A W 1 (λ _. usize) yes (λ κs x f. refl), (goes-none 𝓤 H A W 1 (λ _. usize) yes (λ κs x f. refl), tt))))))
 
-uleb-from-meets : {M : Type 1} (𝓤 : URA M) (H : Heap 𝓤) (A : Atoms 𝓤) (W : Given 𝓤 H A) (at-mem : Memory → SProp 𝓤) (run : Routine → Fun 𝓤) (𝓣 : Tables 𝓤 H)
+uleb-from-meets : {M : Type 1} (𝓤 : URA M) (H : Heap 𝓤) (A : Atoms 𝓤) (W : Given 𝓤 H A) (at-mem : Memory → SProp 𝓤) (run : Routine → Fun 𝓤)
+    (𝓣 : Tables 𝓤 H)
     → Triple 𝓤 (𝓣 .C #cursor·uleb) (AtCursor 𝓤 H A at-mem run) → Triple 𝓤 (𝓣 .C #cursor·placed) (Placed 𝓤 H A at-mem run)
     → Meets 𝓤 H A from-pos.signature (WpFn 𝓤 H (𝓣 .C) (𝓣 .Λ) code.function) (from-pos.spec 𝓤 H A at-mem run)
-uleb-from-meets 𝓤 H A W at-mem run 𝓣 known-uleb known-placed = walk-meets 𝓤 H A from-pos.ended stayed W (goes 𝓤 H A W at-mem run) (from-pos.clauses 𝓤 H A at-mem run) (WpFn 𝓤 H (𝓣 .C) (𝓣 .Λ) code.function) (WpFn-mono 𝓤 H (W .laws) 𝓣 code.function)
+uleb-from-meets 𝓤 H A W at-mem run 𝓣 known-uleb known-placed = walk-meets 𝓤 H A from-pos.ended stayed W (goes 𝓤 H A W at-mem run)
+    (from-pos.clauses 𝓤 H A at-mem run) (WpFn 𝓤 H (𝓣 .C) (𝓣 .Λ) code.function) (WpFn-mono 𝓤 H (W .laws) 𝓣 code.function)
     (uleb-from-walks 𝓤 H A W at-mem run (𝓣 .C) (𝓣 .Λ) (fmOf 𝓤 H (W .laws) 𝓣) known-uleb known-placed)
 
 pub uleb-from-spec : {M : Type 1} → stated.statement M
@@ -243,4 +302,5 @@ uleb-from-spec 𝓤 H 𝓜 𝓖 𝓡 =
     (tables 𝓤 H 𝓜 𝓡 code.env .C) (tables 𝓤 H 𝓜 𝓡 code.env .Λ) #cursor·uleb-from code.function (code.unfolded 𝓤 H 𝓜 𝓡)
     (uleb-from-meets 𝓤 H (𝓖 .A) (givenOf 𝓤 H 𝓜 𝓖) (𝓜 .mem) (𝓡 .run) (tablesOf 𝓤 H 𝓜 (tables 𝓤 H 𝓜 𝓡 code.env))
     (cited 𝓤 H (AtCursor 𝓤 H (𝓖 .A) (𝓜 .mem) (𝓡 .run)) 𝓜 𝓡 code.env #cursor·uleb uleb-def.routine code.calls-cursor·uleb (uleb-thm.met 𝓤 H 𝓜 𝓖 𝓡))
-    (cited 𝓤 H (Placed 𝓤 H (𝓖 .A) (𝓜 .mem) (𝓡 .run)) 𝓜 𝓡 code.env #cursor·placed placed-def.routine code.calls-cursor·placed (placed-thm.met 𝓤 H 𝓜 𝓖 𝓡)))
+    (cited 𝓤 H (Placed 𝓤 H (𝓖 .A) (𝓜 .mem) (𝓡 .run)) 𝓜 𝓡 code.env #cursor·placed placed-def.routine code.calls-cursor·placed
+        (placed-thm.met 𝓤 H 𝓜 𝓖 𝓡)))

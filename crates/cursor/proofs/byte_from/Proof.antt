@@ -65,10 +65,19 @@ use Rattle.cursor.proofs.byte_from.Statement as stated
 use Rattle.cursor.proofs.byte_from.Code as code
 
 abbrev stayed : Stays (from-pos.ended .signature .params) (from-pos.ended .kept)
-stayed =
-    (stay-none-slice (0 ∷ []) tt (plain (λ _. u8)) yes, (stay-none (λ _. usize) yes,
-        (stay-none-slice (0 ∷ []) tt (plain (λ _. u8)) yes, (stay-none (λ _. usize) yes,
-        (stay-none (λ _. usize) yes, (stay-none (λ _. usize) yes, tt))))))
+stayed = (
+  stay-none-slice (0 ∷ []) tt (plain (λ _. u8)) yes,
+  (
+    stay-none (λ _. usize) yes,
+    (
+      stay-none-slice (0 ∷ []) tt (plain (λ _. u8)) yes,
+      (
+        stay-none (λ _. usize) yes,
+        (stay-none (λ _. usize) yes, (stay-none (λ _. usize) yes, tt)),
+      ),
+    ),
+  ),
+)
 
 module _ {M : Type 1} (𝓤 : URA M) (H : Heap 𝓤) (A : Atoms 𝓤) (at-mem : Memory → SProp 𝓤) (run : Routine → Fun 𝓤) where
   -- the contract that the proof cites
@@ -120,7 +129,7 @@ module _ {M : Type 1} (𝓤 : URA M) (H : Heap 𝓤) (A : Atoms 𝓤) (W : Given
     enters : ent 𝓤 (onEntry 𝓤 H A next-u8.signature (κ, (ν ∷ [], tt)) (q, (fullShare, tt)) args passed) (AtCursor 𝓤 H A at-mem run .pre to)
     enters =
         qed W ((‵ (flft κ q) ⊛ ‵ (flft (ν ∷ []) fullShare) ⊛ ‵ ftrue) ∷ ‵ (owns (ShrSlice (named 0) κ u8 ∷ usize ∷ ShrSlice (named 0) κ u8 ∷ usize ∷
-            MutRef (named 1) (ν ∷ []) B.the-row ∷ []) args passed) ∷ []) ∵ join ! $
+        MutRef (named 1) (ν ∷ []) B.the-row ∷ []) args passed) ∷ []) ∵ join ! $
         frame ! $ done !
 
     asked : ent 𝓤 (⋆ 𝓤 H A ((‵ (flft κ q) ⊛ ‵ (flft (ν ∷ []) fullShare) ⊛ ‵ ftrue) ∷ ‵ Lent ∷ (‵ (Part κ s) ⊛ ‵ (Part κ t)) ∷ []))
@@ -129,7 +138,7 @@ module _ {M : Type 1} (𝓤 : URA M) (H : Heap 𝓤) (A : Atoms 𝓤) (W : Given
         qed W ((‵ (flft κ q) ⊛ ‵ (flft (ν ∷ []) fullShare) ⊛ ‵ ftrue) ∷ ‵ Lent ∷ (‵ (Part κ s) ⊛ ‵ (Part κ t)) ∷ []) ∵
         nothing ! $ move ! (2 ∷ 0 ∷ []) $ fjoin ! $ move ! (2 ∷ 0 ∷ []) $
         use2 W (‵ (Four κ s sb t tb (fsep Lent ftrue)) ⊛ (‵ (Part κ s) ⊛ ‵ (Part κ t)))
-            (four-copy 𝓤 H A W κ s sb t tb (fsep Lent ftrue) sb-fits tb-fits) $
+        (four-copy 𝓤 H A W κ s sb t tb (fsep Lent ftrue) sb-fits tb-fits) $
         split ! $
         -- [what the parameters own; the slices; the tokens]
         move ! (2 ∷ 0 ∷ []) $ use2 W (raw (AtCursor 𝓤 H A at-mem run .pre to)) enters $ frame ! $ done !
@@ -143,7 +152,7 @@ module _ {M : Type 1} (𝓤 : URA M) (H : Heap 𝓤) (A : Atoms 𝓤) (W : Given
   exits a z e =
       qed W (‵ (S.the-row .own a (z ∷ [])) ∷ ‵ (flft κ q) ∷ (‵ (Part κ s) ⊛ ‵ (Part κ t)) ∷ []) ∵
       suffices ! _ (ends-at 𝓤 H A from-pos.ended stayed (from-pos.clauses 𝓤 H A at-mem run) W (((κ, tt), (q, tt), tt, x, at), tt) z a
-          (tt, (tt, (tt, (tt, (tt, (tt, tt)))))) (tt, (tt, (tt, (tt, (tt, (tt, tt))))))) $
+      (tt, (tt, (tt, (tt, (tt, (tt, tt)))))) (tt, (tt, (tt, (tt, (tt, (tt, tt))))))) $
       says ! e $
       nothing ! $ move ! (2 ∷ 0 ∷ []) $ join ! $ frame ! $
       -- [the answer; the slices]
@@ -158,13 +167,13 @@ module _ {M : Type 1} (𝓤 : URA M) (H : Heap 𝓤) (A : Atoms 𝓤) (W : Given
   module _ (C : Calls 𝓤 H) (Λ : Loops 𝓤 H) (fm : FmC 𝓤 H (W .laws) C) (known : Triple 𝓤 (C #cursor·u8) (AtCursor 𝓤 H A at-mem run)) where
     walk : Is (ShrSlice (named 0) κ u8) s (fat-of s ∷ []) → Is (ShrSlice (named 0) κ u8) t (fat-of t ∷ [])
         → ent 𝓤 (onEntry 𝓤 H A from-pos.signature (κ, tt) (q, tt) x at) (WpFn 𝓤 H C Λ code.function
-            (fat-of s ∷ vint w64 sb ∷ fat-of t ∷ vint w64 tb ∷ vint w64 pos ∷ vint w64 limit ∷ []) Post)
+        (fat-of s ∷ vint w64 sb ∷ fat-of t ∷ vint w64 tb ∷ vint w64 pos ∷ vint w64 limit ∷ []) Post)
     walk is-s is-t =
         qed W ((‵ (flft κ q) ⊛ ‵ ftrue) ∷ ‵ (owns (ShrSlice (named 0) κ u8 ∷ usize ∷ ShrSlice (named 0) κ u8 ∷ usize ∷ usize ∷ usize ∷ []) x at) ∷ [])
-            ∵
+        ∵
         enter ! C Λ code.function (fat-of s ∷ vint w64 sb ∷ fat-of t ∷ vint w64 tb ∷ vint w64 pos ∷ vint w64 limit ∷ []) _ $
         alloc1 ! (λ l₀. alloc1 ! (λ l₁. alloc1 ! (λ l₂. alloc1 ! (λ l₃. alloc1 !
-            (λ l₄. alloc1 ! (λ l₅. alloc1 ! (λ l₆. alloc1 ! (λ l₇. alloc1 ! (λ l₈. alloc0 ! $
+        (λ l₄. alloc1 ! (λ l₅. alloc1 ! (λ l₆. alloc1 ! (λ l₇. alloc1 ! (λ l₈. alloc0 ! $
         params1 ! $
         pass1 ! (init ! 14 refl (shr-slice-lawful 𝓤 H A W (named 0) κ u8 .typed s (fat-of s ∷ []) is-s .0)) $
         pass1 ! (init ! 12 refl (tt, record { fits = sb-fits })) $
@@ -173,7 +182,7 @@ module _ {M : Type 1} (𝓤 : URA M) (H : Heap 𝓤) (A : Atoms 𝓤) (W : Given
         pass1 ! (init ! 6 refl (tt, record { fits = pos-fits })) $ pass1 ! (init ! 4 refl (tt, record { fits = limit-fits })) $ pass0 ! $
         -- the cursor is made
         assigns ! (agg ! (and-then ! (load ! (from ! (stop !)) (look ! 6 refl)) (and-then ! (load ! (from ! (stop !)) (look ! 4 refl)) (no-more !))))
-            (from ! (stop !)) (init ! 2 refl (tt, (record { fits = pos-fits }, (record { fits = limit-fits }, tt)))) $
+        (from ! (stop !)) (init ! 2 refl (tt, (record { fits = pos-fits }, (record { fits = limit-fits }, tt)))) $
         assigns ! (addr ! (from ! (stop !))) (from ! (stop !)) (init ! 0 refl (tt, tt)) $
         move ! (19 ∷ []) $ use1 W ((‵ (Part κ s) ⊛ ‵ (Part κ t)) ⊛ ‵ Numbers) (four-out 𝓤 H A W κ s sb t tb Numbers) $ split ! $ move ! (1 ∷ []) $
         drop ! $ move ! (19 ∷ []) $ split ! $
@@ -183,20 +192,20 @@ module _ {M : Type 1} (𝓤 : URA M) (H : Heap 𝓤) (A : Atoms 𝓤) (W : Given
         use2 W (‵ (partAt B.the-row fullShare h l₇ 0)) (part-in 𝓤 H A W B.the-row refl fullShare h l₇ 0 (B′.lowered h)) $
         lft-new ! tt (λ ν. move ! (1 ∷ []) $
         use1 W (later (some (λ (δ : GName). ‵ (Lent l₇ ν δ) ⊛ ‵ (flent (ν ∷ []) (Body (mem B.the-row) l₇ 0 δ)))))
-            (lends-ref 𝓤 H A W B.the-row (named 1) (ν ∷ []) h l₇ 0) $
+        (lends-ref 𝓤 H A W B.the-row (named 1) (ν ∷ []) h l₇ 0) $
         await ! tt $ pick ! (λ δ. split ! $
         move ! (2 ∷ 4 ∷ []) $ join ! $ move ! (3 ∷ 0 ∷ []) $ join ! $ move ! (0 ∷ 1 ∷ 3 ∷ []) $
         use3 W (raw (AtCursor 𝓤 H A at-mem run .pre (to l₇ ν δ)) ⊛ (‵ (Part κ s) ⊛ ‵ (Part κ t))) (asked l₇ ν δ) $ split ! $
         -- [what `u8` asks; the slices; the lender's part; _8; …; _7's end; _6; …; _5; …; _4; …; _3; …; _2; …; _1; …; room for _0; …]
         calls-at ! fm (AtCursor 𝓤 H A at-mem run) known (to l₇ ν δ) (and-then ! (load ! (from ! (stop !)) (look ! 16 refl))
-            (and-then ! (load ! (from ! (stop !)) (look ! 14 refl)) (and-then ! (load ! (from ! (stop !)) (look ! 12 refl))
+        (and-then ! (load ! (from ! (stop !)) (look ! 14 refl)) (and-then ! (load ! (from ! (stop !)) (look ! 12 refl))
         (and-then ! (load ! (from ! (stop !)) (look ! 10 refl)) (and-then ! (load ! (from ! (stop !)) (look ! 3 refl)) (no-more !)))))) (λ u.
         use1 W (later (some (λ (r : Byte). ((‵ (flft κ q) ⊛ ‵ (flft (ν ∷ []) fullShare) ⊛ ‵ ftrue) ⊛ ‵ (S.the-row .own r (u ∷ []))) ⊛ raw
-            (ensured 𝓤 H A next-u8.ended (next-u8.clauses 𝓤 H A at-mem run) (κ, (ν ∷ [], tt)) (args l₇ ν δ) tt r)))) (id⊢ 𝓤 _) $
+        (ensured 𝓤 H A next-u8.ended (next-u8.clauses 𝓤 H A at-mem run) (κ, (ν ∷ [], tt)) (args l₇ ν δ) tt r)))) (id⊢ 𝓤 _) $
         await ! tt $ pick ! (λ r.
         split ! $ move ! (1 ∷ []) $
         use1 W (some (λ (ws : Last). ‵ (lasts next-u8.ended (κ, (ν ∷ [], tt)) (args l₇ ν δ) ws) ⊛ raw
-            (fact 𝓤 ((r ≡ found) × (ws .1 .1 .1 .1 .0 ≡ pastByte h found))))) (id⊢ 𝓤 _) $
+        (fact 𝓤 ((r ≡ found) × (ws .1 .1 .1 .1 .0 ≡ pastByte h found))))) (id⊢ 𝓤 _) $
         pick ! (λ ws.
         split ! $ move ! (1 ∷ []) $ heard ! ((r ≡ found) × (ws .1 .1 .1 .1 .0 ≡ pastByte h found)) (λ e.
         fsplit ! $ drop ! $ fsplit ! $ drop ! $ fsplit ! $ drop ! $ fsplit ! $ drop ! $ fsplit ! $ move ! (2 ∷ []) $ split ! $ move ! (1 ∷ []) $
@@ -208,7 +217,7 @@ module _ {M : Type 1} (𝓤 : URA M) (H : Heap 𝓤) (A : Atoms 𝓤) (W : Given
         use3 W (later (‵ (partAt B.the-row fullShare (ws .1 .1 .1 .1 .0) l₇ 0))) (ref-back 𝓤 H A W B.the-row (ν ∷ []) δ (ws .1 .1 .1 .1 .0) l₇ 0) $
         await ! tt $
         use1 W (some (λ (w : Val). ‵ (fat fullShare B′.mir l₇ 0 w) ⊛ ‵ (B.the-row .own (ws .1 .1 .1 .1 .0) (w ∷ []))))
-            (part-out 𝓤 H A W B.the-row refl fullShare (ws .1 .1 .1 .1 .0) l₇ 0) $
+        (part-out 𝓤 H A W B.the-row refl fullShare (ws .1 .1 .1 .1 .0) l₇ 0) $
         pick ! (λ w. split ! $
         -- [the cursor's cell; what it owns; true; the token; what was read; true; the slices; _8; …; _7's end; _6; …; …]
         returns ! (look ! 22 refl) $ forget ! 0 refl $ forget ! 7 refl $ forget ! 10 refl $ forget ! 12 refl $ forget ! 14 refl $ forget ! 16 refl $
@@ -223,17 +232,34 @@ module _ {M : Type 1} (𝓤 : URA M) (H : Heap 𝓤) (A : Atoms 𝓤) (W : Given
       → Walks 𝓤 H A from-pos.ended stayed (WpFn 𝓤 H C Λ code.function) (from-pos.clauses 𝓤 H A at-mem run)
   byte-from-walks C Λ fm known = walked 𝓤 H A from-pos.ended stayed (from-pos.clauses 𝓤 H A at-mem run) (WpFn 𝓤 H C Λ code.function)
       (λ κs. (slice-vals, (uint-vals w64, (slice-vals, (uint-vals w64, (uint-vals w64, (uint-vals w64, tt)))))))
-      (λ κs. (shr-slice-tells (named 0) (κs .0) u8, (uint-tells w64, (shr-slice-tells (named 0) (κs .0) u8,
-          (uint-tells w64, (uint-tells w64, (uint-tells w64, tt)))))))
+      (λ κs. (
+        shr-slice-tells (named 0) (κs .0) u8,
+        (
+          uint-tells w64,
+          (
+            shr-slice-tells (named 0) (κs .0) u8,
+            (uint-tells w64, (uint-tells w64, (uint-tells w64, tt))),
+          ),
+        ),
+      ))
       (λ κs qs bounds a _ are. via 𝓤 _ (fst∗ 𝓤 _ (emp 𝓤)) (walk 𝓤 H A W at-mem run (κs .0) (qs .0) (a .0) (a .1 .0) (a .1 .1 .0) (a .1 .1 .1 .0)
-          (a .1 .1 .1 .1 .0) (a .1 .1 .1 .1 .1 .0) (are .1 .0 .1) (are .1 .1 .1 .0 .1) (are .1 .1 .1 .1 .0 .1) (are .1 .1 .1 .1 .1 .0 .1) C Λ fm known
-          (are .0) (are .1 .1 .0)))
+      (a .1 .1 .1 .1 .0) (a .1 .1 .1 .1 .1 .0) (are .1 .0 .1) (are .1 .1 .1 .0 .1) (are .1 .1 .1 .1 .0 .1) (are .1 .1 .1 .1 .1 .0 .1) C Λ fm known
+      (are .0) (are .1 .1 .0)))
 
   goes : AllGo 𝓤 H A W 1 (from-pos.signature .params) (from-pos.ended .kept) stayed
-  goes =
-      (goes-none-slice 𝓤 H A W 1 (0 ∷ []) tt (plain (λ _. u8)) yes, (goes-none 𝓤 H A W 1 (λ _. usize) yes (λ κs x f. refl),
-          (goes-none-slice 𝓤 H A W 1 (0 ∷ []) tt (plain (λ _. u8)) yes, (goes-none 𝓤 H A W 1 (λ _. usize) yes (λ κs x f. refl),
-          (goes-none 𝓤 H A W 1 (λ _. usize) yes (λ κs x f. refl), (goes-none 𝓤 H A W 1 (λ _. usize) yes (λ κs x f. refl), tt))))))
+  goes = (
+    goes-none-slice 𝓤 H A W 1 (0 ∷ []) tt (plain (λ _. u8)) yes,
+    (
+      goes-none 𝓤 H A W 1 (λ _. usize) yes (λ κs x f. refl),
+      (
+        goes-none-slice 𝓤 H A W 1 (0 ∷ []) tt (plain (λ _. u8)) yes,
+        (
+          goes-none 𝓤 H A W 1 (λ _. usize) yes (λ κs x f. refl),
+          (goes-none 𝓤 H A W 1 (λ _. usize) yes (λ κs x f. refl), (goes-none 𝓤 H A W 1 (λ _. usize) yes (λ κs x f. refl), tt)),
+        ),
+      ),
+    ),
+  )
 
 byte-from-meets : {M : Type 1} (𝓤 : URA M) (H : Heap 𝓤) (A : Atoms 𝓤) (W : Given 𝓤 H A) (at-mem : Memory → SProp 𝓤) (run : Routine → Fun 𝓤)
     (𝓣 : Tables 𝓤 H)

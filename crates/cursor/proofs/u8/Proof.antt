@@ -68,9 +68,13 @@ use Rattle.cursor.proofs.u8.Statement as stated
 use Rattle.cursor.proofs.u8.Code as code
 
 abbrev stayed : Stays (next-u8.ended .signature .params) (next-u8.ended .kept)
-stayed =
-    (stay-none-slice (0 ∷ []) tt (plain (λ _. u8)) yes, (stay-none (λ _. usize) yes,
-        (stay-none-slice (0 ∷ []) tt (plain (λ _. u8)) yes, (stay-none (λ _. usize) yes, (stay-ref (1 ∷ []) tt (plain (λ _. B.the-row)), tt)))))
+stayed = (
+  stay-none-slice (0 ∷ []) tt (plain (λ _. u8)) yes,
+  (
+    stay-none (λ _. usize) yes,
+    (stay-none-slice (0 ∷ []) tt (plain (λ _. u8)) yes, (stay-none (λ _. usize) yes, (stay-ref (1 ∷ []) tt (plain (λ _. B.the-row)), tt))),
+  ),
+)
 
 module _ {M : Type 1} (𝓤 : URA M) (H : Heap 𝓤) (A : Atoms 𝓤) (at-mem : Memory → SProp 𝓤) (run : Routine → Fun 𝓤) where
   -- the contract that the proof cites
@@ -119,7 +123,7 @@ module _ {M : Type 1} (𝓤 : URA M) (H : Heap 𝓤) (A : Atoms 𝓤) (W : Given
   enters : ent 𝓤 (onEntry 𝓤 H A moved.signature (κ, tt) (q, tt) args passed) (ByteMoved 𝓤 H A at-mem run .pre to)
   enters =
       qed W ((‵ (flft κ q) ⊛ ‵ ftrue) ∷
-          ‵ (owns (ShrSlice (named 0) κ u8 ∷ usize ∷ ShrSlice (named 0) κ u8 ∷ usize ∷ usize ∷ usize ∷ []) args passed) ∷ []) ∵
+      ‵ (owns (ShrSlice (named 0) κ u8 ∷ usize ∷ ShrSlice (named 0) κ u8 ∷ usize ∷ usize ∷ usize ∷ []) args passed) ∷ []) ∵
       join ! $ frame ! $ done !
 
   -- what the callee asks: the token, a copy of what the slices own, and the numbers
@@ -145,12 +149,12 @@ module _ {M : Type 1} (𝓤 : URA M) (H : Heap 𝓤) (A : Atoms 𝓤) (W : Given
 
   exits : (m : MovedByte) → m ≡ movedByteOf (h .pos) found → Is S.the-row (m .byte) (S′.lowered (m .byte) ∷ [])
       → ent 𝓤 (⋆ 𝓤 H A (‵ (fobs γ (B.the-row .coded .code (h′ m))) ∷ ‵ (fbor κ′ (Body (mem B.the-row) b o γ)) ∷ (‵ (flft κ q) ⊛ ‵ ftrue) ∷ ‵
-          (flft κ′ q′) ∷ (‵ (Part κ s) ⊛ ‵ (Part κ t)) ∷ [])) (Post (S′.lowered (m .byte)))
+      (flft κ′ q′) ∷ (‵ (Part κ s) ⊛ ‵ (Part κ t)) ∷ [])) (Post (S′.lowered (m .byte)))
   exits m e is =
       qed W (‵ (fobs γ (B.the-row .coded .code (h′ m))) ∷ ‵ (fbor κ′ (Body (mem B.the-row) b o γ)) ∷ (‵ (flft κ q) ⊛ ‵ ftrue) ∷ ‵ (flft κ′ q′) ∷
-          (‵ (Part κ s) ⊛ ‵ (Part κ t)) ∷ []) ∵
+      (‵ (Part κ s) ⊛ ‵ (Part κ t)) ∷ []) ∵
       suffices ! _ (ends-at 𝓤 H A next-u8.ended stayed (next-u8.clauses 𝓤 H A at-mem run) W (((κ, (κ′, tt)), (q, (q′, tt)), tt, x, at), tt)
-          (S′.lowered (m .byte)) (m .byte) (tt, (tt, (tt, (tt, (h′ m, tt))))) (tt, (tt, (tt, (tt, (tt, tt)))))) $
+      (S′.lowered (m .byte)) (m .byte) (tt, (tt, (tt, (tt, (h′ m, tt))))) (tt, (tt, (tt, (tt, (tt, tt)))))) $
       says ! (ap (λ (n : MovedByte). n .byte) e, ap h′ e) $
       move ! (2 ∷ []) $ split ! $ move ! (4 ∷ 1 ∷ []) $ join ! $ move ! (1 ∷ 0 ∷ []) $ join ! $ frame ! $
       -- [the cursor's last value; its borrow; the slices]
@@ -181,13 +185,13 @@ module _ {M : Type 1} (𝓤 : URA M) (H : Heap 𝓤) (A : Atoms 𝓤) (W : Given
   module _ (C : Calls 𝓤 H) (Λ : Loops 𝓤 H) (fm : FmC 𝓤 H (W .laws) C) (known : Triple 𝓤 (C #cursor·byte-moved) (ByteMoved 𝓤 H A at-mem run)) where
     walk : Is (ShrSlice (named 0) κ u8) s (fat-of s ∷ []) → Is (ShrSlice (named 0) κ u8) t (fat-of t ∷ [])
         → ent 𝓤 (onEntry 𝓤 H A next-u8.signature (κ, (κ′, tt)) (q, (q′, tt)) x at)
-            (WpFn 𝓤 H C Λ code.function (fat-of s ∷ vint w64 sb ∷ fat-of t ∷ vint w64 tb ∷ vptr b o ∷ []) Post)
+        (WpFn 𝓤 H C Λ code.function (fat-of s ∷ vint w64 sb ∷ fat-of t ∷ vint w64 tb ∷ vptr b o ∷ []) Post)
     walk is-s is-t =
         qed W ((‵ (flft κ q) ⊛ ‵ (flft κ′ q′) ⊛ ‵ ftrue) ∷ ‵ (owns (ShrSlice (named 0) κ u8 ∷ usize ∷ ShrSlice (named 0) κ u8 ∷ usize ∷ MutRef
-            (named 1) κ′ B.the-row ∷ []) x at) ∷ []) ∵
+        (named 1) κ′ B.the-row ∷ []) x at) ∷ []) ∵
         enter ! C Λ code.function (fat-of s ∷ vint w64 sb ∷ fat-of t ∷ vint w64 tb ∷ vptr b o ∷ []) _ $
         alloc1 ! (λ l₀. alloc1 ! (λ l₁. alloc1 ! (λ l₂. alloc1 ! (λ l₃. alloc1 !
-            (λ l₄. alloc1 ! (λ l₅. alloc1 ! (λ l₆. alloc1 ! (λ l₇. alloc1 ! (λ l₈. alloc0 ! $
+        (λ l₄. alloc1 ! (λ l₅. alloc1 ! (λ l₆. alloc1 ! (λ l₇. alloc1 ! (λ l₈. alloc0 ! $
         params1 ! $
         pass1 ! (init ! 14 refl (shr-slice-lawful 𝓤 H A W (named 0) κ u8 .typed s (fat-of s ∷ []) is-s .0)) $
         pass1 ! (init ! 12 refl (tt, record { fits = sb-fits })) $
@@ -198,22 +202,22 @@ module _ {M : Type 1} (𝓤 : URA M) (H : Heap 𝓤) (A : Atoms 𝓤) (W : Given
         move ! (1 ∷ []) $ fsplit ! $ fsplit3 ! $ drop ! $
         move ! (22 ∷ []) $ split ! $ move ! (1 ∷ []) $ split ! $ move ! (3 ∷ 4 ∷ 0 ∷ []) $
         opens ! tt B.the-row {h = h} b o (λ us. spelt ! B.the-row (Is B.the-row) (shows 𝓤 H A B.the-row) (LL.vals B.the-type B′.the-laws)
-            (LL.tells B.the-type B′.the-laws) fullShare h us b o $
+        (LL.tells B.the-type B′.the-laws) fullShare h us b o $
         move ! (1 ∷ []) $ peeks ! B.the-row (Is B.the-row) (shows 𝓤 H A B.the-row) h (B′.lowered h ∷ []) (λ g. move ! (1 ∷ 0 ∷ []) $
         -- [the cursor's cell; what it owns; the open borrow; obs; auth; true; 'a's token; true; the slices; _8; …; _7; …; _6; …;
         -- _5; …; _4; …; _3; …; _2; …; _1; …; room for _0; …]
         assigns ! (of-opd ! (load ! (from ! (hop ! (look ! 15 refl) (fld ! refl (stop !)))) (look-in ! 0 (sub ! 0 refl (whole !))))) (from ! (stop !))
-            (init ! 11 refl (tt, record { fits = pos-fits g })) $
+        (init ! 11 refl (tt, record { fits = pos-fits g })) $
         assigns ! (of-opd ! (load ! (from ! (hop ! (look ! 15 refl) (fld ! refl (stop !)))) (look-in ! 0 (sub ! 1 refl (whole !))))) (from ! (stop !))
-            (init ! 9 refl (tt, record { fits = end-fits g })) $
+        (init ! 9 refl (tt, record { fits = end-fits g })) $
         move ! (6 ∷ 8 ∷ []) $ use2 W (raw (ByteMoved 𝓤 H A at-mem run .pre to) ⊛ (‵ (Part κ s) ⊛ ‵ (Part κ t))) (asked (pos-fits g) (end-fits g)) $
         split ! $
         calls-at ! fm (ByteMoved 𝓤 H A at-mem run) known to (and-then ! (load ! (from ! (stop !)) (look ! 23 refl))
-            (and-then ! (load ! (from ! (stop !)) (look ! 21 refl)) (and-then ! (load ! (from ! (stop !)) (look ! 19 refl))
+        (and-then ! (load ! (from ! (stop !)) (look ! 21 refl)) (and-then ! (load ! (from ! (stop !)) (look ! 19 refl))
         (and-then ! (load ! (from ! (stop !)) (look ! 17 refl)) (and-then ! (load ! (from ! (stop !)) (look ! 11 refl))
-            (and-then ! (load ! (from ! (stop !)) (look ! 9 refl)) (no-more !))))))) (λ u.
+        (and-then ! (load ! (from ! (stop !)) (look ! 9 refl)) (no-more !))))))) (λ u.
         use1 W (later (some (λ (m : MovedByte). ((‵ (flft κ q) ⊛ ‵ ftrue) ⊛ ‵ (T.the-row .own m (u ∷ []))) ⊛ raw
-            (ensured 𝓤 H A moved.ended (moved.clauses 𝓤 H A at-mem run) (κ, tt) args tt m)))) (id⊢ 𝓤 _) $
+        (ensured 𝓤 H A moved.ended (moved.clauses 𝓤 H A at-mem run) (κ, tt) args tt m)))) (id⊢ 𝓤 _) $
         await ! tt $ pick ! (λ m.
         split ! $ move ! (1 ∷ []) $ use1 W (raw (fact 𝓤 (m ≡ movedByteOf (h .pos) found))) (said m) $
         heard ! (m ≡ movedByteOf (h .pos) found) (λ e. split ! $ move ! (1 ∷ []) $
@@ -223,10 +227,10 @@ module _ {M : Type 1} (𝓤 : URA M) (H : Heap 𝓤) (A : Atoms 𝓤) (W : Given
         land ! (from ! (stop !)) (init ! 14 refl (LL.lawful T.the-type T′.the-laws 𝓤 H A W .typed m _ is .0)) $
         rewrite ! 14 (λ (w : Val). ‵ (fat fullShare T′.mir l₆ 0 w)) (ap only (T′.lowers .val-is m _ is)) refl $
         assigns ! (of-opd ! (load ! (from ! (fld ! refl (stop !))) (look-in ! 14 (sub ! 1 refl (whole !)))))
-            (from ! (hop ! (look ! 16 refl) (fld ! refl (stop !)))) (store-in ! 3 (sub ! 0 refl (whole !)) (tt, record { fits = place-fits m u is }))
-            $
+        (from ! (hop ! (look ! 16 refl) (fld ! refl (stop !)))) (store-in ! 3 (sub ! 0 refl (whole !)) (tt, record { fits = place-fits m u is }))
+        $
         assigns ! (of-opd ! (load ! (from ! (fld ! refl (stop !))) (look-in ! 14 (sub ! 0 refl (whole !))))) (from ! (stop !))
-            (init ! 26 refl (EL.lawful S.the-type S′.the-laws 𝓤 H A W tt .typed (m .byte) _ (byte-is m u is) .0)) $
+        (init ! 26 refl (EL.lawful S.the-type S′.the-laws 𝓤 H A W tt .typed (m .byte) _ (byte-is m u is) .0)) $
         -- the borrow is closed at the new cursor
         move ! (4 ∷ []) $ drop ! $
         owned ! B.the-row (Is B.the-row) (LL.makes B.the-type B′.the-plain 𝓤 H A) (h′ m) _ (made m (place-fits m u is) (end-fits g)) $
@@ -244,17 +248,34 @@ module _ {M : Type 1} (𝓤 : URA M) (H : Heap 𝓤) (A : Atoms 𝓤) (W : Given
       → Walks 𝓤 H A next-u8.ended stayed (WpFn 𝓤 H C Λ code.function) (next-u8.clauses 𝓤 H A at-mem run)
   u8-walks C Λ fm known = walked 𝓤 H A next-u8.ended stayed (next-u8.clauses 𝓤 H A at-mem run) (WpFn 𝓤 H C Λ code.function)
       (λ κs. (slice-vals, (uint-vals w64, (slice-vals, (uint-vals w64, (ptr-vals, tt))))))
-      (λ κs. (shr-slice-tells (named 0) (κs .0) u8, (uint-tells w64, (shr-slice-tells (named 0) (κs .0) u8,
-          (uint-tells w64, (mut-tells (named 1) (κs .1 .0) B.the-row, tt))))))
+      (λ κs. (
+        shr-slice-tells (named 0) (κs .0) u8,
+        (
+          uint-tells w64,
+          (
+            shr-slice-tells (named 0) (κs .0) u8,
+            (uint-tells w64, (mut-tells (named 1) (κs .1 .0) B.the-row, tt)),
+          ),
+        ),
+      ))
       (λ κs qs bounds a _ are. via 𝓤 _ (fst∗ 𝓤 _ (emp 𝓤)) (walk 𝓤 H A W at-mem run (κs .0) (κs .1 .0) (qs .0) (qs .1 .0) (a .0) (a .1 .0) (a .1 .1 .0)
-          (a .1 .1 .1 .0) (a .1 .1 .1 .1 .0 .ptr .0) (a .1 .1 .1 .1 .0 .ptr .1) (a .1 .1 .1 .1 .0 .name) (a .1 .1 .1 .1 .0 .now) (are .1 .0 .1)
-          (are .1 .1 .1 .0 .1) C Λ fm known (are .0) (are .1 .1 .0)))
+      (a .1 .1 .1 .0) (a .1 .1 .1 .1 .0 .ptr .0) (a .1 .1 .1 .1 .0 .ptr .1) (a .1 .1 .1 .1 .0 .name) (a .1 .1 .1 .1 .0 .now) (are .1 .0 .1)
+      (are .1 .1 .1 .0 .1) C Λ fm known (are .0) (are .1 .1 .0)))
 
   goes : AllGo 𝓤 H A W 2 (next-u8.signature .params) (next-u8.ended .kept) stayed
-  goes =
-      (goes-none-slice 𝓤 H A W 2 (0 ∷ []) tt (plain (λ _. u8)) yes, (goes-none 𝓤 H A W 2 (λ _. usize) yes (λ κs x f. refl),
-          (goes-none-slice 𝓤 H A W 2 (0 ∷ []) tt (plain (λ _. u8)) yes, (goes-none 𝓤 H A W 2 (λ _. usize) yes (λ κs x f. refl),
-          (goes-ref 𝓤 H A W 2 1 tt (plain (λ _. B.the-row)), tt)))))
+  goes = (
+    goes-none-slice 𝓤 H A W 2 (0 ∷ []) tt (plain (λ _. u8)) yes,
+    (
+      goes-none 𝓤 H A W 2 (λ _. usize) yes (λ κs x f. refl),
+      (
+        goes-none-slice 𝓤 H A W 2 (0 ∷ []) tt (plain (λ _. u8)) yes,
+        (
+          goes-none 𝓤 H A W 2 (λ _. usize) yes (λ κs x f. refl),
+          (goes-ref 𝓤 H A W 2 1 tt (plain (λ _. B.the-row)), tt),
+        ),
+      ),
+    ),
+  )
 
 u8-meets : {M : Type 1} (𝓤 : URA M) (H : Heap 𝓤) (A : Atoms 𝓤) (W : Given 𝓤 H A) (at-mem : Memory → SProp 𝓤) (run : Routine → Fun 𝓤) (𝓣 : Tables 𝓤 H)
     → Triple 𝓤 (𝓣 .C #cursor·byte-moved) (ByteMoved 𝓤 H A at-mem run)
@@ -270,4 +291,4 @@ u8-spec 𝓤 H 𝓜 𝓖 𝓡 =
     (tables 𝓤 H 𝓜 𝓡 code.env .C) (tables 𝓤 H 𝓜 𝓡 code.env .Λ) #cursor·u8 code.function (code.unfolded 𝓤 H 𝓜 𝓡)
     (u8-meets 𝓤 H (𝓖 .A) (givenOf 𝓤 H 𝓜 𝓖) (𝓜 .mem) (𝓡 .run) (tablesOf 𝓤 H 𝓜 (tables 𝓤 H 𝓜 𝓡 code.env))
     (cited 𝓤 H (ByteMoved 𝓤 H (𝓖 .A) (𝓜 .mem) (𝓡 .run)) 𝓜 𝓡 code.env #cursor·byte-moved moved-def.routine code.calls-cursor·byte-moved
-        (moved-thm.met 𝓤 H 𝓜 𝓖 𝓡)))
+    (moved-thm.met 𝓤 H 𝓜 𝓖 𝓡)))

@@ -74,10 +74,19 @@ use Rattle.cursor.proofs.uleb_from.Statement as stated
 use Rattle.cursor.proofs.uleb_from.Code as code
 
 abbrev stayed : Stays (from-pos.ended .signature .params) (from-pos.ended .kept)
-stayed =
-    (stay-none-slice (0 ∷ []) tt (plain (λ _. u8)) yes, (stay-none (λ _. usize) yes,
-        (stay-none-slice (0 ∷ []) tt (plain (λ _. u8)) yes, (stay-none (λ _. usize) yes,
-        (stay-none (λ _. usize) yes, (stay-none (λ _. usize) yes, tt))))))
+stayed = (
+  stay-none-slice (0 ∷ []) tt (plain (λ _. u8)) yes,
+  (
+    stay-none (λ _. usize) yes,
+    (
+      stay-none-slice (0 ∷ []) tt (plain (λ _. u8)) yes,
+      (
+        stay-none (λ _. usize) yes,
+        (stay-none (λ _. usize) yes, (stay-none (λ _. usize) yes, tt)),
+      ),
+    ),
+  ),
+)
 
 module _ {M : Type 1} (𝓤 : URA M) (H : Heap 𝓤) (A : Atoms 𝓤) (at-mem : Memory → SProp 𝓤) (run : Routine → Fun 𝓤) where
   -- the contracts that the proof cites
@@ -132,7 +141,7 @@ module _ {M : Type 1} (𝓤 : URA M) (H : Heap 𝓤) (A : Atoms 𝓤) (W : Given
     enters : ent 𝓤 (onEntry 𝓤 H A uleb.signature (κ, (ν ∷ [], tt)) (q, (fullShare, tt)) args passed) (AtCursor 𝓤 H A at-mem run .pre to)
     enters =
         qed W ((‵ (flft κ q) ⊛ ‵ (flft (ν ∷ []) fullShare) ⊛ ‵ ftrue) ∷ ‵ (owns (ShrSlice (named 0) κ u8 ∷ usize ∷ ShrSlice (named 0) κ u8 ∷ usize ∷
-            MutRef (named 1) (ν ∷ []) B.the-row ∷ []) args passed) ∷ []) ∵ join ! $
+        MutRef (named 1) (ν ∷ []) B.the-row ∷ []) args passed) ∷ []) ∵ join ! $
         frame ! $ done !
 
     asked : ent 𝓤 (⋆ 𝓤 H A ((‵ (flft κ q) ⊛ ‵ (flft (ν ∷ []) fullShare) ⊛ ‵ ftrue) ∷ ‵ Lent ∷ (‵ (Part κ s) ⊛ ‵ (Part κ t)) ∷ []))
@@ -141,7 +150,7 @@ module _ {M : Type 1} (𝓤 : URA M) (H : Heap 𝓤) (A : Atoms 𝓤) (W : Given
         qed W ((‵ (flft κ q) ⊛ ‵ (flft (ν ∷ []) fullShare) ⊛ ‵ ftrue) ∷ ‵ Lent ∷ (‵ (Part κ s) ⊛ ‵ (Part κ t)) ∷ []) ∵
         nothing ! $ move ! (2 ∷ 0 ∷ []) $ fjoin ! $ move ! (2 ∷ 0 ∷ []) $
         use2 W (‵ (Four κ s sb t tb (fsep Lent ftrue)) ⊛ (‵ (Part κ s) ⊛ ‵ (Part κ t)))
-            (four-copy 𝓤 H A W κ s sb t tb (fsep Lent ftrue) sb-fits tb-fits) $
+        (four-copy 𝓤 H A W κ s sb t tb (fsep Lent ftrue) sb-fits tb-fits) $
         split ! $
         -- [what the parameters own; the slices; the tokens]
         move ! (2 ∷ 0 ∷ []) $ use2 W (raw (AtCursor 𝓤 H A at-mem run .pre to)) enters $ frame ! $ done !
@@ -173,7 +182,7 @@ module _ {M : Type 1} (𝓤 : URA M) (H : Heap 𝓤) (A : Atoms 𝓤) (W : Given
   exits a z e =
       qed W (‵ (U.the-row .own a (z ∷ [])) ∷ ‵ (flft κ q) ∷ (‵ (Part κ s) ⊛ ‵ (Part κ t)) ∷ []) ∵
       suffices ! _ (ends-at 𝓤 H A from-pos.ended stayed (from-pos.clauses 𝓤 H A at-mem run) W (((κ, tt), (q, tt), tt, x, at), tt) z a
-          (tt, (tt, (tt, (tt, (tt, (tt, tt)))))) (tt, (tt, (tt, (tt, (tt, (tt, tt))))))) $
+      (tt, (tt, (tt, (tt, (tt, (tt, tt)))))) (tt, (tt, (tt, (tt, (tt, (tt, tt))))))) $
       says ! e $
       nothing ! $ move ! (2 ∷ 0 ∷ []) $ join ! $ frame ! $
       -- [the answer; the slices]
@@ -192,13 +201,13 @@ module _ {M : Type 1} (𝓤 : URA M) (H : Heap 𝓤) (A : Atoms 𝓤) (W : Given
       (known-placed : Triple 𝓤 (C #cursor·placed) (Placed 𝓤 H A at-mem run)) where
     walk : Is (ShrSlice (named 0) κ u8) s (fat-of s ∷ []) → Is (ShrSlice (named 0) κ u8) t (fat-of t ∷ [])
         → ent 𝓤 (onEntry 𝓤 H A from-pos.signature (κ, tt) (q, tt) x at) (WpFn 𝓤 H C Λ code.function
-            (fat-of s ∷ vint w64 sb ∷ fat-of t ∷ vint w64 tb ∷ vint w64 pos ∷ vint w64 limit ∷ []) Post)
+        (fat-of s ∷ vint w64 sb ∷ fat-of t ∷ vint w64 tb ∷ vint w64 pos ∷ vint w64 limit ∷ []) Post)
     walk is-s is-t =
         qed W ((‵ (flft κ q) ⊛ ‵ ftrue) ∷ ‵ (owns (ShrSlice (named 0) κ u8 ∷ usize ∷ ShrSlice (named 0) κ u8 ∷ usize ∷ usize ∷ usize ∷ []) x at) ∷ [])
-            ∵
+        ∵
         enter ! C Λ code.function (fat-of s ∷ vint w64 sb ∷ fat-of t ∷ vint w64 tb ∷ vint w64 pos ∷ vint w64 limit ∷ []) _ $
         alloc1 ! (λ l₀. alloc1 ! (λ l₁. alloc1 ! (λ l₂. alloc1 ! (λ l₃. alloc1 !
-            (λ l₄. alloc1 ! (λ l₅. alloc1 ! (λ l₆. alloc1 ! (λ l₇. alloc1 ! (λ l₈. alloc1 ! (λ l₉. alloc1 ! (λ l₁₀. alloc0 ! $
+        (λ l₄. alloc1 ! (λ l₅. alloc1 ! (λ l₆. alloc1 ! (λ l₇. alloc1 ! (λ l₈. alloc1 ! (λ l₉. alloc1 ! (λ l₁₀. alloc0 ! $
         params1 ! $
         pass1 ! (init ! 18 refl (shr-slice-lawful 𝓤 H A W (named 0) κ u8 .typed s (fat-of s ∷ []) is-s .0)) $
         pass1 ! (init ! 16 refl (tt, record { fits = sb-fits })) $
@@ -207,7 +216,7 @@ module _ {M : Type 1} (𝓤 : URA M) (H : Heap 𝓤) (A : Atoms 𝓤) (W : Given
         pass1 ! (init ! 10 refl (tt, record { fits = pos-fits })) $ pass1 ! (init ! 8 refl (tt, record { fits = limit-fits })) $ pass0 ! $
         -- the cursor is made
         assigns ! (agg ! (and-then ! (load ! (from ! (stop !)) (look ! 10 refl)) (and-then ! (load ! (from ! (stop !)) (look ! 8 refl)) (no-more !))))
-            (from ! (stop !)) (init ! 6 refl (tt, (record { fits = pos-fits }, (record { fits = limit-fits }, tt)))) $
+        (from ! (stop !)) (init ! 6 refl (tt, (record { fits = pos-fits }, (record { fits = limit-fits }, tt)))) $
         assigns ! (addr ! (from ! (stop !))) (from ! (stop !)) (init ! 2 refl (tt, tt)) $
         move ! (23 ∷ []) $ use1 W ((‵ (Part κ s) ⊛ ‵ (Part κ t)) ⊛ ‵ Numbers) (four-out 𝓤 H A W κ s sb t tb Numbers) $ split ! $ move ! (1 ∷ []) $
         drop ! $ move ! (23 ∷ []) $ split ! $
@@ -217,20 +226,20 @@ module _ {M : Type 1} (𝓤 : URA M) (H : Heap 𝓤) (A : Atoms 𝓤) (W : Given
         use2 W (‵ (partAt B.the-row fullShare h l₇ 0)) (part-in 𝓤 H A W B.the-row refl fullShare h l₇ 0 (B′.lowered h)) $
         lft-new ! tt (λ ν. move ! (1 ∷ []) $
         use1 W (later (some (λ (δ : GName). ‵ (Lent l₇ ν δ) ⊛ ‵ (flent (ν ∷ []) (Body (mem B.the-row) l₇ 0 δ)))))
-            (lends-ref 𝓤 H A W B.the-row (named 1) (ν ∷ []) h l₇ 0) $
+        (lends-ref 𝓤 H A W B.the-row (named 1) (ν ∷ []) h l₇ 0) $
         await ! tt $ pick ! (λ δ. split ! $
         move ! (2 ∷ 4 ∷ []) $ join ! $ move ! (3 ∷ 0 ∷ []) $ join ! $ move ! (0 ∷ 1 ∷ 3 ∷ []) $
         use3 W (raw (AtCursor 𝓤 H A at-mem run .pre (to l₇ ν δ)) ⊛ (‵ (Part κ s) ⊛ ‵ (Part κ t))) (asked l₇ ν δ) $ split ! $
         -- [what `uleb` asks; the slices; the lender's part; _10; …; _9; …; _8; …; _7's end; _6; …; _5; …; _4; …; _3; …; _2; …; _1; …; room for _0; …]
         calls-at ! fm (AtCursor 𝓤 H A at-mem run) known-uleb (to l₇ ν δ) (and-then ! (load ! (from ! (stop !)) (look ! 20 refl))
-            (and-then ! (load ! (from ! (stop !)) (look ! 18 refl)) (and-then ! (load ! (from ! (stop !)) (look ! 16 refl))
+        (and-then ! (load ! (from ! (stop !)) (look ! 18 refl)) (and-then ! (load ! (from ! (stop !)) (look ! 16 refl))
         (and-then ! (load ! (from ! (stop !)) (look ! 14 refl)) (and-then ! (load ! (from ! (stop !)) (look ! 5 refl)) (no-more !)))))) (λ u.
         use1 W (later (some (λ (r : Value). ((‵ (flft κ q) ⊛ ‵ (flft (ν ∷ []) fullShare) ⊛ ‵ ftrue) ⊛ ‵ (S.the-row .own r (u ∷ []))) ⊛ raw
-            (ensured 𝓤 H A uleb.ended (uleb.clauses 𝓤 H A at-mem run) (κ, (ν ∷ [], tt)) (args l₇ ν δ) tt r)))) (id⊢ 𝓤 _) $
+        (ensured 𝓤 H A uleb.ended (uleb.clauses 𝓤 H A at-mem run) (κ, (ν ∷ [], tt)) (args l₇ ν δ) tt r)))) (id⊢ 𝓤 _) $
         await ! tt $ pick ! (λ r.
         split ! $ move ! (1 ∷ []) $
         use1 W (some (λ (ws : Last). ‵ (lasts uleb.ended (κ, (ν ∷ [], tt)) (args l₇ ν δ) ws) ⊛ raw
-            (fact 𝓤 ((r ≡ valueOf found) × (ws .1 .1 .1 .1 .0 ≡ past h found))))) (id⊢ 𝓤 _) $
+        (fact 𝓤 ((r ≡ valueOf found) × (ws .1 .1 .1 .1 .0 ≡ past h found))))) (id⊢ 𝓤 _) $
         pick ! (λ ws.
         split ! $ move ! (1 ∷ []) $ heard ! ((r ≡ valueOf found) × (ws .1 .1 .1 .1 .0 ≡ past h found)) (λ e.
         fsplit ! $ drop ! $ fsplit ! $ drop ! $ fsplit ! $ drop ! $ fsplit ! $ drop ! $ fsplit ! $ move ! (2 ∷ []) $ split ! $ move ! (1 ∷ []) $
@@ -242,20 +251,20 @@ module _ {M : Type 1} (𝓤 : URA M) (H : Heap 𝓤) (A : Atoms 𝓤) (W : Given
         use3 W (later (‵ (partAt B.the-row fullShare (ws .1 .1 .1 .1 .0) l₇ 0))) (ref-back 𝓤 H A W B.the-row (ν ∷ []) δ (ws .1 .1 .1 .1 .0) l₇ 0) $
         await ! tt $
         use1 W (some (λ (w : Val). ‵ (fat fullShare B′.mir l₇ 0 w) ⊛ ‵ (B.the-row .own (ws .1 .1 .1 .1 .0) (w ∷ []))))
-            (part-out 𝓤 H A W B.the-row refl fullShare (ws .1 .1 .1 .1 .0) l₇ 0) $
+        (part-out 𝓤 H A W B.the-row refl fullShare (ws .1 .1 .1 .1 .0) l₇ 0) $
         pick ! (λ w. split ! $
         move ! (1 ∷ []) $ peeks ! B.the-row (Is B.the-row) (shows 𝓤 H A B.the-row) (ws .1 .1 .1 .1 .0) (w ∷ []) (λ is-b.
         rewrite ! 1 (λ (y : Val). ‵ (fat fullShare B′.mir l₇ 0 y)) (ap only (LL.tells B.the-type B′.the-laws (ws .1 .1 .1 .1 .0) _ is-b)) refl $
         -- [what the cursor owns; its cell; true; the token; what was read; true; the slices; _10; …; _9; …; _8; …; _7's end; _6; …; …]
         assigns ! (of-opd ! (load ! (from ! (fld ! refl (stop !))) (look-in ! 1 (sub ! 0 refl (whole !))))) (from ! (stop !))
-            (init ! 7 refl (tt, record { fits = place-fits (ws .1 .1 .1 .1 .0) w is-b })) $
+        (init ! 7 refl (tt, record { fits = place-fits (ws .1 .1 .1 .1 .0) w is-b })) $
         move ! (4 ∷ []) $
         use1 W (raw (Placed 𝓤 H A at-mem run .pre (to-placed r u (ws .1 .1 .1 .1 .0 .pos))))
-            (goes-placed r u (ws .1 .1 .1 .1 .0 .pos) (place-fits (ws .1 .1 .1 .1 .0) w is-b)) $
+        (goes-placed r u (ws .1 .1 .1 .1 .0 .pos) (place-fits (ws .1 .1 .1 .1 .0) w is-b)) $
         calls-at ! fm (Placed 𝓤 H A at-mem run) known-placed (to-placed r u (ws .1 .1 .1 .1 .0 .pos))
-            (and-then ! (load ! (from ! (stop !)) (look ! 11 refl)) (and-then ! (load ! (from ! (stop !)) (look ! 7 refl)) (no-more !))) (λ z.
+        (and-then ! (load ! (from ! (stop !)) (look ! 11 refl)) (and-then ! (load ! (from ! (stop !)) (look ! 7 refl)) (no-more !))) (λ z.
         use1 W (later (some (λ (a : Uleb). (‵ ftrue ⊛ ‵ (U.the-row .own a (z ∷ []))) ⊛ raw
-            (ensured 𝓤 H A placed.ended (placed.clauses 𝓤 H A at-mem run) tt (r, (ws .1 .1 .1 .1 .0 .pos, tt)) tt a)))) (id⊢ 𝓤 _) $
+        (ensured 𝓤 H A placed.ended (placed.clauses 𝓤 H A at-mem run) tt (r, (ws .1 .1 .1 .1 .0 .pos, tt)) tt a)))) (id⊢ 𝓤 _) $
         await ! tt $ pick ! (λ a.
         split ! $ move ! (1 ∷ []) $ use1 W (raw (fact 𝓤 (a ≡ Cursor.placed (ws .1 .1 .1 .1 .0 .pos) r))) (placed-said r (ws .1 .1 .1 .1 .0 .pos) a) $
         heard ! (a ≡ Cursor.placed (ws .1 .1 .1 .1 .0 .pos) r) (λ e′. split ! $ move ! (1 ∷ []) $
@@ -275,17 +284,34 @@ module _ {M : Type 1} (𝓤 : URA M) (H : Heap 𝓤) (A : Atoms 𝓤) (W : Given
       → Walks 𝓤 H A from-pos.ended stayed (WpFn 𝓤 H C Λ code.function) (from-pos.clauses 𝓤 H A at-mem run)
   uleb-from-walks C Λ fm known-uleb known-placed = walked 𝓤 H A from-pos.ended stayed (from-pos.clauses 𝓤 H A at-mem run) (WpFn 𝓤 H C Λ code.function)
       (λ κs. (slice-vals, (uint-vals w64, (slice-vals, (uint-vals w64, (uint-vals w64, (uint-vals w64, tt)))))))
-      (λ κs. (shr-slice-tells (named 0) (κs .0) u8, (uint-tells w64, (shr-slice-tells (named 0) (κs .0) u8,
-          (uint-tells w64, (uint-tells w64, (uint-tells w64, tt)))))))
+      (λ κs. (
+        shr-slice-tells (named 0) (κs .0) u8,
+        (
+          uint-tells w64,
+          (
+            shr-slice-tells (named 0) (κs .0) u8,
+            (uint-tells w64, (uint-tells w64, (uint-tells w64, tt))),
+          ),
+        ),
+      ))
       (λ κs qs bounds a _ are. via 𝓤 _ (fst∗ 𝓤 _ (emp 𝓤)) (walk 𝓤 H A W at-mem run (κs .0) (qs .0) (a .0) (a .1 .0) (a .1 .1 .0) (a .1 .1 .1 .0)
-          (a .1 .1 .1 .1 .0) (a .1 .1 .1 .1 .1 .0) (are .1 .0 .1) (are .1 .1 .1 .0 .1) (are .1 .1 .1 .1 .0 .1) (are .1 .1 .1 .1 .1 .0 .1) C Λ fm
-          known-uleb known-placed (are .0) (are .1 .1 .0)))
+      (a .1 .1 .1 .1 .0) (a .1 .1 .1 .1 .1 .0) (are .1 .0 .1) (are .1 .1 .1 .0 .1) (are .1 .1 .1 .1 .0 .1) (are .1 .1 .1 .1 .1 .0 .1) C Λ fm
+      known-uleb known-placed (are .0) (are .1 .1 .0)))
 
   goes : AllGo 𝓤 H A W 1 (from-pos.signature .params) (from-pos.ended .kept) stayed
-  goes =
-      (goes-none-slice 𝓤 H A W 1 (0 ∷ []) tt (plain (λ _. u8)) yes, (goes-none 𝓤 H A W 1 (λ _. usize) yes (λ κs x f. refl),
-          (goes-none-slice 𝓤 H A W 1 (0 ∷ []) tt (plain (λ _. u8)) yes, (goes-none 𝓤 H A W 1 (λ _. usize) yes (λ κs x f. refl),
-          (goes-none 𝓤 H A W 1 (λ _. usize) yes (λ κs x f. refl), (goes-none 𝓤 H A W 1 (λ _. usize) yes (λ κs x f. refl), tt))))))
+  goes = (
+    goes-none-slice 𝓤 H A W 1 (0 ∷ []) tt (plain (λ _. u8)) yes,
+    (
+      goes-none 𝓤 H A W 1 (λ _. usize) yes (λ κs x f. refl),
+      (
+        goes-none-slice 𝓤 H A W 1 (0 ∷ []) tt (plain (λ _. u8)) yes,
+        (
+          goes-none 𝓤 H A W 1 (λ _. usize) yes (λ κs x f. refl),
+          (goes-none 𝓤 H A W 1 (λ _. usize) yes (λ κs x f. refl), (goes-none 𝓤 H A W 1 (λ _. usize) yes (λ κs x f. refl), tt)),
+        ),
+      ),
+    ),
+  )
 
 uleb-from-meets : {M : Type 1} (𝓤 : URA M) (H : Heap 𝓤) (A : Atoms 𝓤) (W : Given 𝓤 H A) (at-mem : Memory → SProp 𝓤) (run : Routine → Fun 𝓤)
     (𝓣 : Tables 𝓤 H)
@@ -303,4 +329,4 @@ uleb-from-spec 𝓤 H 𝓜 𝓖 𝓡 =
     (uleb-from-meets 𝓤 H (𝓖 .A) (givenOf 𝓤 H 𝓜 𝓖) (𝓜 .mem) (𝓡 .run) (tablesOf 𝓤 H 𝓜 (tables 𝓤 H 𝓜 𝓡 code.env))
     (cited 𝓤 H (AtCursor 𝓤 H (𝓖 .A) (𝓜 .mem) (𝓡 .run)) 𝓜 𝓡 code.env #cursor·uleb uleb-def.routine code.calls-cursor·uleb (uleb-thm.met 𝓤 H 𝓜 𝓖 𝓡))
     (cited 𝓤 H (Placed 𝓤 H (𝓖 .A) (𝓜 .mem) (𝓡 .run)) 𝓜 𝓡 code.env #cursor·placed placed-def.routine code.calls-cursor·placed
-        (placed-thm.met 𝓤 H 𝓜 𝓖 𝓡)))
+    (placed-thm.met 𝓤 H 𝓜 𝓖 𝓡)))

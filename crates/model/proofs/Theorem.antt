@@ -20,10 +20,10 @@ use Rattle.model.specs.Unwinding.{frame0, raise, raised}
 use Rattle.model.specs.Machine.{Open, Machine, Fresh}
 use Rattle.model.specs.Described.{described}
 use Rattle.model.specs.Event.{Event, steps}
-use Rattle.model.specs.Throw.{Throw, thrown, throwable, throwAllowed, framesAt}
+use Rattle.model.specs.Throw.{Throw, lookedAt, thrown, throwable, throwAllowed, framesAt}
 use Rattle.model.specs.Sound.{Sound}
-use Rattle.model.specs.Expected.{outcome, due, dueBy, landingsFrom, firstOf}
-use Rattle.model.specs.Demand.{SweepCall, Admissible, RegularServed, answers, raisedBy, unwindingOf, EveryLanding, Demand3}
+use Rattle.model.specs.Expected.{outcome, due, dueBy, landingsFrom}
+use Rattle.model.specs.Demand.{raisedBy, unwindingOf, EveryLanding, Demand3}
 use Rattle.model.proofs.Chain.{Inner, FrameAt, Chain, Inv, Agrees}
 use Rattle.model.proofs.Guard.{each}
 use Rattle.model.proofs.Files.{pointers}
@@ -72,8 +72,8 @@ module _ (m : Machine) (i : Inv m) where
       go (f ∷ fs) inner e =
           let (above, (held, (fits, _))) =
           each (ltb 0 (t .pc))
-          (holds (f .entry .function) (lookedUp (t .interrupted) (t .pc))
-          ∷ described (numbers (m .arch)) (m .section) f (thrown m t) (t .interrupted) (lookedUp (t .interrupted) (t .pc)) ∷ [])
+          (holds (f .entry .function) (lookedAt t)
+          ∷ described (numbers (m .arch)) (m .section) f (thrown m t) (t .interrupted) (lookedAt t) ∷ [])
           e in
           let here : pc (thrown m t) ≡ t .pc = thrown-pc t in (
             record {
@@ -140,16 +140,11 @@ pub every-landing : (m : Machine) → Inv m → (t : Throw) → throwAllowed m t
 every-landing m i t allowed s exception =
     record {
       throws = throws m i t allowed s;
-      served = λ cs a. all cs a .0;
-      lands = λ cs a. all cs a .1;
+      lands =
+          λ cs a.
+          calls m (i .accepted) (i .known) (walks m i (s .tables)) cs (unwindingOf m t exception) (due m t)
+          (starts m i t allowed s exception) a;
     }
-  where
-    all : (cs : List SweepCall) → Admissible m (unwindingOf m t exception) cs →
-        RegularServed m (unwindingOf m t exception) cs
-        × (answers (numbers (m .arch)) cs ≡ firstOf (length (answers (numbers (m .arch)) cs)) (due m t))
-    all cs a =
-        calls m (i .accepted) (i .known) (walks m i (s .tables)) cs (unwindingOf m t exception) (due m t)
-        (starts m i t allowed s exception) a
 
 -- every landing, and no other
 pub demand3 : Demand3

@@ -1,5 +1,5 @@
 -- The cleanup phase: the next landing of an unwinding (document 01, "Walk, throw and call machine": a sweep call).
-use mathlib.Core.Bool.{Bool, not, _&&_}
+use mathlib.Core.Bool.{_&&_}
 use mathlib.Core.List.{List}
 use Prim.Native.Nat.{ℕ, zero, suc}
 use lib.Dec.{eqb, ltb}
@@ -11,7 +11,7 @@ use Rattle.arch.specs.Arch.{Arch, numbers}
 use Rattle.arch.specs.File.{sp, pc}
 use Rattle.lookup.specs.declared.Record.{Record}
 use Rattle.rows.specs.Row.{Found, None, Pad, cleanup, catch}
-use Rattle.personality.specs.Reason.{Reason, rowOf, installed}
+use Rattle.personality.specs.Reason.{rowOf, installed, installContext, fatalPhase2}
 use Rattle.model.specs.FrameStep.{Frame, Step, End, Past, frameStep}
 
 -- the frame that the search chose
@@ -24,6 +24,12 @@ pub record Choice : Type 0 where
 pub data Swept : Type 0 where
   Landing : (number : ℕ) (file : List ℕ) (next : Frame) → Swept
   Fatal Finished : Swept
+
+-- document 01's number for each case; finished has none there, and is 0 here
+abbrev pub reasonOf : Swept → ℕ
+reasonOf (Landing number file next) = installContext
+reasonOf Fatal = fatalPhase2
+reasonOf Finished = 0
 
 -- the landing of a frame; the walk goes on from its caller
 unfoldable pub land : Arch → ℕ → Frame → Record → ℕ → Frame → Outcome Swept
@@ -57,7 +63,7 @@ sweepAt arch m exception c f rest (Past r next) = do
   row ← rowOf (numbers arch) m (f .interrupted) r (pc (f .file))
   byRow (numbers arch) exception c f r next (rest next) row
 
--- the next landing from a frame on, over at most n frames
+-- the next landing from a frame on, over at most n frames; from 1,025 on the first line is never met
 abbrev pub sweepFrom : ℕ → ℕ → Memory → ℕ → Choice → Frame → Outcome Swept
 sweepFrom zero arch m exception c f = Refused TooManyFrames
 sweepFrom (suc n) arch m exception c f =

@@ -1,18 +1,18 @@
 -- Demand 3: every landing, and no other.
-use mathlib.Core.Bool.{Bool, true}
+use mathlib.Core.Bool.{true}
 use mathlib.Core.List.{List, [], _∷_, map}
 use mathlib.Core.Logic.{_⊎_}
 use mathlib.Core.Path.{_≡_}
 use Prim.Native.Nat.{ℕ}
 use lib.ListN.{length}
 use Rattle.failure.specs.Outcome.{Outcome, Refused, Answer}
-use Rattle.mem.specs.Memory.{Region}
+use Rattle.mem.specs.Memory.{Lent}
 use Rattle.arch.specs.Arch.{Arch, numbers}
 use Rattle.arch.specs.File.{sp, pc}
 use Rattle.model.specs.declared.Unwinding.{Unwinding}
 use Rattle.model.specs.Cleanup as Cleanup
 use Rattle.model.specs.Cleanup.{Swept}
-use Rattle.model.specs.Search.{Searched, Chosen, Stopped, Ended}
+use Rattle.model.specs.Search.{Searched}
 use Rattle.model.specs.Unwinding.{frame0, raise, raised, resume, resumed}
 use Rattle.model.specs.Machine.{Machine, Fresh, lentBy, value}
 use Rattle.model.specs.Event.{Event, steps}
@@ -20,20 +20,19 @@ use Rattle.model.specs.Throw.{Throw, throwAllowed}
 use Rattle.model.specs.Sound.{Sound}
 use Rattle.model.specs.Expected.{Landing, Given, Landed, Fatal, Finished, outcome, due, firstOf}
 
--- a sweep call: any architecture, any two slices and bases, any unwinding
+-- a sweep call: any architecture, anything lent, any unwinding
 pub record SweepCall : Type 0 where
   pub arch : ℕ
-  pub section : Region
-  pub stack : Region
+  pub lent : Lent
   pub unwinding : Unwinding
 
 -- what a sweep call comes to
 unfoldable pub sweptBy : SweepCall → Outcome Swept
-sweptBy c = resume (record { regions = c .section ∷ c .stack ∷ [] }) (c .arch) (c .unwinding)
+sweptBy c = resume (c .lent) (c .arch) (c .unwinding)
 
 -- the regular call: the throw's architecture, the same bytes at the same addresses, and the current unwinding
 abbrev pub regular : Machine → Unwinding → SweepCall
-regular m u = record { arch = m .arch; section = m .section; stack = m .stack; unwinding = u }
+regular m u = record { arch = m .arch; lent = lentBy m; unwinding = u }
 
 -- the current unwinding after a call: what it returned, unless it was refused
 abbrev pub currentBy : Unwinding → Unwinding → Outcome Swept → Unwinding
@@ -83,12 +82,13 @@ unfoldable pub unwindingOf : Machine → Throw → ℕ → Unwinding
 unwindingOf m t exception = raised (frame0 (m .registers) (t .pc) (t .interrupted)) exception (raisedBy m t)
 
 -- every landing, and no other, after a throw: it answers the first catch's number and sp, or 3, or 5; and for every admissible list
--- of sweep calls no regular one is refused, and the answers are the first so many of the landings due, then finished for ever
+-- of sweep calls no regular one is refused, and the answers are as many as there are of: the landings due, in order, then finished
+-- again and again
 pub record EveryLanding (m : Machine) (t : Throw) (exception : ℕ) : Type 0 where
   pub throws : raisedBy m t ≡ Answer (outcome m t)
-  pub served : (cs : List SweepCall) → Admissible m (unwindingOf m t exception) cs → RegularServed m (unwindingOf m t exception) cs
   pub lands : (cs : List SweepCall) → Admissible m (unwindingOf m t exception) cs →
-      answers (numbers (m .arch)) cs ≡ firstOf (length (answers (numbers (m .arch)) cs)) (due m t)
+      RegularServed m (unwindingOf m t exception) cs
+      × (answers (numbers (m .arch)) cs ≡ firstOf (length (answers (numbers (m .arch)) cs)) (due m t))
 
 -- demand 3: after every list of events from a fresh machine, then a throw or interrupt within the rules under a sound section
 abbrev pub Demand3 : Type 0

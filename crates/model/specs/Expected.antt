@@ -1,5 +1,4 @@
 -- What a throw and its sweep calls must give, computed from the machine's frames and their rows alone.
-use mathlib.Core.Bool.{Bool}
 use mathlib.Core.List.{List, [], _∷_, map}
 use Prim.Native.Nat.{ℕ, zero, suc, _+_, _%_, _^_}
 use lib.Dec.{eqb}

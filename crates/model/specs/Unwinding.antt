@@ -3,7 +3,7 @@ use mathlib.Core.Bool.{Bool, true, false}
 use mathlib.Core.List.{List}
 use Prim.Native.Nat.{ℕ}
 use Rattle.failure.specs.Choice.{if_then_else_}
-use Rattle.failure.specs.Outcome.{Outcome, Refused, Answer, _>>=_}
+use Rattle.failure.specs.Outcome.{Outcome, Refused, Answer}
 use Rattle.failure.specs.Failure.{BadOpening}
 use Rattle.mem.specs.Memory.{Lent}
 use Rattle.mem.specs.Opening.{opens}
@@ -18,7 +18,7 @@ use Rattle.model.specs.Cleanup.{Choice, Swept, Landing, Fatal, Finished,
 unfoldable pub opened : {A : Type 0} → Lent → ℕ → Outcome A → Outcome A
 opened l arch o = if opens l then (if isKnown arch then o else Refused BadOpening) else Refused BadOpening
 
--- the frame step in what is lent
+-- the frame step in what is lent (document 01: walk)
 unfoldable pub nextFrame : Lent → ℕ → Frame → Outcome Step
 nextFrame l arch f = opened l arch (frameStep arch (l .regions) f)
 

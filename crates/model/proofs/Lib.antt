@@ -30,3 +30,4 @@ pub mod Searching
 pub mod Landings
 pub mod Sweeping
 pub mod Calls
+pub mod Exactly

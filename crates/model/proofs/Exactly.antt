@@ -1,5 +1,4 @@
--- A throw answers 3, 5 or a catch exactly by the first row that is catch or terminate, and exactly the landings up to that catch are due.
--- Assumes nothing.
+-- Exactly the landings up to the first catch are due, and none where 3 or 5 is answered. Assumes nothing.
 use mathlib.Core.Bool.{Bool, true, false}
 use mathlib.Core.List.{List, [], _∷_, _++_, List·Memᴰ, List·Memᴰ·head, List·Memᴰ·tail, List·Memᴰ·not-nil, List·Memᴰ·cases-cons}
 use mathlib.Core.Logic.{_⊎_, inl, inr, ⊎-elim, _↔_}
@@ -7,7 +6,6 @@ use mathlib.Core.Path.{_≡_, refl, sym, _∙_, ap, subst}
 use Prim.Native.Nat.{ℕ, _+_, _≤_, _<_}
 use native.Mathlib.Omega.{arith}
 use lib.Dec.{eqb}
-use borrow.Author.Tests.{eqb-true, eqb-false, ne-eqb}
 use Rattle.failure.specs.Choice.{if_then_else_}
 use Rattle.mem.specs.Memory.{Region}
 use Rattle.arch.specs.Arch.{Arch, numbers}
@@ -17,166 +15,199 @@ use Rattle.model.specs.Search.{Searched, Chosen, Stopped, Ended}
 use Rattle.model.specs.Machine.{Machine}
 use Rattle.model.specs.Throw.{Throw, Standing, framesAt, rowOf}
 use Rattle.model.specs.Expected.{Landing, landingOf, outcomeBy, outcomeFrom, landingsBy, landingsFrom, outcome, due, dueBy}
-use Rattle.model.specs.Exactly.{Passed, Catch, Terminate, Numbered, First, Neither, FirstCatch, LandingAt, CleanupBelow, Rising, UpToCatch, Exactly}
+use Rattle.model.specs.Exactly.{Numbered, LandingAt, CleanupBelow, Rising, UpToCatch, Exactly}
 use Rattle.model.proofs.Sweeping.{chosen-above}
-
--- a row is of one of three kinds
-data Kind (row : Found) : Type 0 where
-  Passes : Passed row → Kind row
-  Catches : Catch row → Kind row
-  Terminates : Terminate row → Kind row
-
-kind : (row : Found) → Kind row
-kind None = Passes tt
-kind (Pad pad action) = go (eqb action cleanup) (eqb action catch) refl refl
-  where
-    go : (t u : Bool) → eqb action cleanup ≡ t → eqb action catch ≡ u → Kind (Pad pad action)
-    go true u p q = Passes (eqb-true action cleanup p)
-    go false true p q = Catches (eqb-true action catch q)
-    go false false p q = Terminates (eqb-false action cleanup p, eqb-false action catch q)
-
--- frames are counted upwards
-numbered-above : (n : ℕ) (ss : List Standing) (k : ℕ) (s : Standing) → Numbered n ss k s → n ≤ k
-numbered-above n [] k s i = absurd i
-numbered-above n (x ∷ ss) k s (inl e) = let same : k ≡ n = e .0 in omega arith
-numbered-above n (x ∷ ss) k s (inr i) = let later = numbered-above (n + 1) ss k s i in omega arith
+use Rattle.model.proofs.FirstRow.{Kind, Passes, Catches, Terminates, kind, numbered-above, on-passed, on-catch, on-terminate, stops, ends, chooses}
 
 module _ (a : Arch) (section : Region) where
-  -- what each kind of row says to a search
-  on-passed : (n : ℕ) (s : Standing) (row : Found) (rest : Searched) → Passed row → outcomeBy a n s row rest ≡ rest
-  on-passed n s None rest e = refl
-  on-passed n s (Pad pad action) rest e = rw e
+  -- numbers rise strictly along the landings
+  rising-from : (n : ℕ) (ls : List Landing) → Rising (n + 1) ls → Rising n ls
+  rising-from n [] r = tt
+  rising-from n (l ∷ ls) r = (let above = r .0 in omega arith, r .1)
 
-  on-catch : (n : ℕ) (s : Standing) (row : Found) (rest : Searched) → Catch row → outcomeBy a n s row rest ≡ Chosen n (sp a (s .file))
-  on-catch n s None rest e = absurd e
-  on-catch n s (Pad pad action) rest e = rw e
+  rises : (n : ℕ) (ss : List Standing) → Rising n (landingsFrom a section n ss)
+  unfolding landingOf
+  rises n [] = tt
+  rises n (x ∷ ss) = go (rowOf a section x) (rises (n + 1) ss)
+    where
+      rest : List Landing
+      rest = landingsFrom a section (n + 1) ss
 
-  on-terminate : (n : ℕ) (s : Standing) (row : Found) (rest : Searched) → Terminate row → outcomeBy a n s row rest ≡ Stopped
-  on-terminate n s None rest e = absurd e
-  on-terminate n s (Pad pad action) rest e = rw (ne-eqb action cleanup (e .0), ne-eqb action catch (e .1))
+      acts : (pad : ℕ) (t u : Bool) → Rising (n + 1) rest →
+          Rising n (if t then landingOf a n x pad ∷ rest else if u then landingOf a n x pad ∷ [] else [])
+      acts pad true u r = (omega arith, r)
+      acts pad false true r = (omega arith, tt)
+      acts pad false false r = tt
+
+      go : (row : Found) → Rising (n + 1) rest → Rising n (landingsBy a n x row rest)
+      go None r = rising-from n rest r
+      go (Pad pad action) r = acts pad (eqb action cleanup) (eqb action catch) r
 
   module _ (n : ℕ) (x : Standing) (ss : List Standing) where
-    -- a frame that is passed over, and one of those after it
-    passed-or : Passed (rowOf a section x) → (k : ℕ) (s : Standing) → (Numbered (n + 1) ss k s → Passed (rowOf a section s)) →
-        Numbered n (x ∷ ss) k s → Passed (rowOf a section s)
-    passed-or p k s later (inl e) = subst (λ (y : Standing). Passed (rowOf a section y)) (sym (e .1)) p
-    passed-or p k s later (inr i) = later i
+    -- what the frames after the first come to
+    abbrev rest : Searched
+    rest = outcomeFrom a section (n + 1) ss
 
-    -- the first after a frame that is passed over is the first
-    first-past : (K : Found → Type 0) → Passed (rowOf a section x) → First a section (n + 1) ss K → First a section n (x ∷ ss) K
-    first-past K p f =
+    abbrev later : List Landing
+    later = landingsFrom a section (n + 1) ss
+
+    -- landings of the frames after the first are landings of all
+    landing-later : (action k : ℕ) (l : Landing) → LandingAt a section (n + 1) ss action k l → LandingAt a section n (x ∷ ss) action k l
+    landing-later action k l i =
+        record { frame = i .frame; pad = i .pad; numbered = inr (i .numbered); row = i .row; is = i .is }
+
+    below-later : (k : ℕ) (l : Landing) → CleanupBelow a section (n + 1) ss k l → CleanupBelow a section n (x ∷ ss) k l
+    below-later k l i =
+        record { number = i .number; under = i .under; landing = landing-later cleanup (i .number) l (i .landing) }
+
+    -- a landing below the catch is the first frame's or a later one's
+    below-cases : (R : Type 0) (k : ℕ) (l : Landing) →
+        (n < k → (pad : ℕ) → rowOf a section x ≡ Pad pad cleanup → l ≡ landingOf a n x pad → R) →
+        (CleanupBelow a section (n + 1) ss k l → R) → CleanupBelow a section n (x ∷ ss) k l → R
+    below-cases R k l here after c = go (c .landing .numbered)
+      where
+        i : LandingAt a section n (x ∷ ss) cleanup (c .number) l
+        i = c .landing
+
+        go : Numbered n (x ∷ ss) (c .number) (i .frame) → R
+        go (inl e) =
+            let number : c .number ≡ n = e .0 in
+            here (subst (λ (j : ℕ). j < k) number (c .under)) (i .pad) (ap (rowOf a section) (sym (e .1)) ∙ i .row)
+            (i .is
+            ∙ (ap (λ (j : ℕ). landingOf a j (i .frame) (i .pad)) number ∙ ap (λ (s : Standing). landingOf a n s (i .pad)) (e .1)))
+        go (inr j) =
+            after
+            (record {
+              number = c .number;
+              under = c .under;
+              landing = record { frame = i .frame; pad = i .pad; numbered = j; row = i .row; is = i .is };
+            })
+
+    abbrev Goal : ℕ → Type 0
+    Goal k = UpToCatch a section n (x ∷ ss) k (landingsFrom a section n (x ∷ ss))
+
+    -- by the row of the first frame: none
+    up-past : (k : ℕ) → rowOf a section x ≡ None → UpToCatch a section (n + 1) ss k later → Goal k
+    up-past k row u =
         record {
-          number = f .number;
-          frame = f .frame;
-          numbered = inr (f .numbered);
-          row = f .row;
-          below = λ k s less. passed-or p k s (f .below k s less);
+          cleanups = u .cleanups;
+          last = u .last;
+          split = ap (λ (r : Found). landingsBy a n x r later) row ∙ u .split;
+          each =
+              λ l. (
+                λ i. below-later k l (u .each l .0 i),
+                below-cases (List·Memᴰ l (u .cleanups)) k l
+                    (λ less pad e is. let clash : None ≡ Pad pad cleanup = sym row ∙ e in let z : _≡_ {A = ℕ} 0 1 = cc in absurd (omega arith))
+                    (u .each l .1),
+              );
+          catch = landing-later catch k (u .last) (u .catch);
+          rises = rises n (x ∷ ss);
         }
 
-    -- a frame that is not passed over is the first
-    first-here : (K : Found → Type 0) → K (rowOf a section x) → First a section n (x ∷ ss) K
-    first-here K p =
+    -- cleanup
+    up-cleanup : (k pad : ℕ) → rowOf a section x ≡ Pad pad cleanup → n < k → UpToCatch a section (n + 1) ss k later → Goal k
+    up-cleanup k pad row less u =
         record {
-          number = n;
-          frame = x;
-          numbered = inl (refl, refl);
-          row = p;
-          below = λ k s less i. let above = numbered-above n (x ∷ ss) k s i in absurd (omega arith);
+          cleanups = landingOf a n x pad ∷ u .cleanups;
+          last = u .last;
+          split = ap (λ (r : Found). landingsBy a n x r later) row ∙ ap (λ (ls : List Landing). landingOf a n x pad ∷ ls) (u .split);
+          each =
+              λ l. (
+                λ i.
+                    ⊎-elim
+                    (λ (e : l ≡ landingOf a n x pad).
+                    record {
+                      number = n;
+                      under = less;
+                      landing = record { frame = x; pad = pad; numbered = inl (refl, refl); row = row; is = e };
+                    })
+                    (λ (j : List·Memᴰ l (u .cleanups)). below-later k l (u .each l .0 j)) (List·Memᴰ·cases-cons i),
+                below-cases (List·Memᴰ l (landingOf a n x pad ∷ u .cleanups)) k l
+                    (λ less pad′ e is.
+                    let rows : Pad pad cleanup ≡ Pad pad′ cleanup = sym row ∙ e in
+                    let same : pad ≡ pad′ = cc in
+                    List·Memᴰ·head (is ∙ rw same))
+                    (λ c. List·Memᴰ·tail (u .each l .1 c)),
+              );
+          catch = landing-later catch k (u .last) (u .catch);
+          rises = rises n (x ∷ ss);
         }
 
-  -- what a search comes to, by the first row that is catch or terminate
-  data Says (n : ℕ) (ss : List Standing) (o : Searched) : Type 0 where
-    Chooses : (f : First a section n ss Catch) → o ≡ Chosen (f .number) (sp a (f .frame .file)) → Says n ss o
-    Stops : First a section n ss Terminate → o ≡ Stopped → Says n ss o
-    Ends : Neither a section n ss → o ≡ Ended → Says n ss o
+    -- catch
+    up-catch : (k pad : ℕ) → rowOf a section x ≡ Pad pad catch → k ≡ n → Goal k
+    up-catch k pad row here =
+        record {
+          cleanups = [];
+          last = landingOf a n x pad;
+          split = ap (λ (r : Found). landingsBy a n x r later) row;
+          each =
+              λ l. (
+                λ i. absurd (List·Memᴰ·not-nil i),
+                λ (c : CleanupBelow a section n (x ∷ ss) k l).
+                    let above = numbered-above n (x ∷ ss) (c .number) (c .landing .frame) (c .landing .numbered) in
+                    let under = c .under in
+                    absurd (omega arith),
+              );
+          catch = record { frame = x; pad = pad; numbered = inl (here, refl); row = row; is = rw here };
+          rises = rises n (x ∷ ss);
+        }
 
-  says : (n : ℕ) (ss : List Standing) → Says n ss (outcomeFrom a section n ss)
-  unfolding first-past first-here
-  says n [] = Ends (λ k s i. absurd i) refl
-  says n (x ∷ ss) = here (kind (rowOf a section x)) (says (n + 1) ss)
-    where
-      rest : Searched
-      rest = outcomeFrom a section (n + 1) ss
-
-      past : Passed (rowOf a section x) → Says (n + 1) ss rest → Says n (x ∷ ss) (outcomeFrom a section n (x ∷ ss))
-      past p (Chooses f e) = Chooses (first-past n x ss Catch p f) (on-passed n x (rowOf a section x) rest p ∙ e)
-      past p (Stops f e) = Stops (first-past n x ss Terminate p f) (on-passed n x (rowOf a section x) rest p ∙ e)
-      past p (Ends none e) = Ends (λ k s. passed-or n x ss p k s (none k s)) (on-passed n x (rowOf a section x) rest p ∙ e)
-
-      here : Kind (rowOf a section x) → Says (n + 1) ss rest → Says n (x ∷ ss) (outcomeFrom a section n (x ∷ ss))
-      here (Passes p) later = past p later
-      here (Catches p) later = Chooses (first-here n x ss Catch p) (on-catch n x (rowOf a section x) rest p)
-      here (Terminates p) later = Stops (first-here n x ss Terminate p) (on-terminate n x (rowOf a section x) rest p)
-
-  -- where the first such row is of a kind, the search comes to what that kind says
-  first-says : (K : Found → Type 0) (say : ℕ → Standing → Searched) →
-      ((n : ℕ) (s : Standing) (row : Found) (rest : Searched) → K row → outcomeBy a n s row rest ≡ say n s) → (n : ℕ) (ss : List Standing)
-      (f : First a section n ss K) → outcomeFrom a section n ss ≡ say (f .number) (f .frame)
-  first-says K say law n [] f = absurd (f .numbered)
-  first-says K say law n (x ∷ ss) f = go (f .numbered) (λ i. first-says K say law (n + 1) ss (after i))
-    where
-      rest : Searched
-      rest = outcomeFrom a section (n + 1) ss
-
-      after : Numbered (n + 1) ss (f .number) (f .frame) → First a section (n + 1) ss K
-      after i =
-          record {
-            number = f .number;
-            frame = f .frame;
-            numbered = i;
-            row = f .row;
-            below = λ k s less j. f .below k s less (inr j);
-          }
-
-      go : Numbered n (x ∷ ss) (f .number) (f .frame) →
-          (Numbered (n + 1) ss (f .number) (f .frame) → rest ≡ say (f .number) (f .frame)) →
-          outcomeFrom a section n (x ∷ ss) ≡ say (f .number) (f .frame)
-      go (inl e) later =
-          let number : f .number ≡ n = e .0 in
-          let here : f .frame ≡ x = e .1 in
-          law n x (rowOf a section x) rest (subst (λ (y : Standing). K (rowOf a section y)) here (f .row)) ∙ rw (number, here)
-      go (inr i) later =
-          let above = numbered-above (n + 1) ss (f .number) (f .frame) i in
-          on-passed n x (rowOf a section x) rest (f .below n x (omega arith) (inl (refl, refl))) ∙ later i
-
-  -- where there is none, it ends
-  neither-says : (n : ℕ) (ss : List Standing) → Neither a section n ss → outcomeFrom a section n ss ≡ Ended
-  neither-says n [] none = refl
-  neither-says n (x ∷ ss) none =
-      on-passed n x (rowOf a section x) (outcomeFrom a section (n + 1) ss) (none n x (inl (refl, refl)))
-      ∙ neither-says (n + 1) ss (λ k s i. none k s (inr i))
-
-  module _ (n : ℕ) (ss : List Standing) where
-    -- 3 exactly where the first row that is catch or terminate is terminate
-    pub stops : outcomeFrom a section n ss ≡ Stopped ↔ First a section n ss Terminate
-    stops = (λ e. go e (says n ss), first-says Terminate (λ k s. Stopped) on-terminate n ss)
+    -- any
+    up-by : (k p : ℕ) (row : Found) → rowOf a section x ≡ row → outcomeBy a n x row rest ≡ Chosen k p →
+        (rest ≡ Chosen k p → UpToCatch a section (n + 1) ss k later) → Goal k
+    up-by k p None e o u = up-past k e (u o)
+    up-by k p (Pad pad action) e o u = go (kind (Pad pad action))
       where
-        go : outcomeFrom a section n ss ≡ Stopped → Says n ss (outcomeFrom a section n ss) → First a section n ss Terminate
-        go e (Chooses f p) = let z : _≡_ {A = ℕ} 0 1 = cc in absurd (omega arith)
-        go e (Stops f p) = f
-        go e (Ends none p) = let z : _≡_ {A = ℕ} 0 1 = cc in absurd (omega arith)
+        go : Kind (Pad pad action) → Goal k
+        go (Passes q) =
+            let after : rest ≡ Chosen k p = sym (on-passed a n x (Pad pad action) rest q) ∙ o in
+            let above = chosen-above a section (n + 1) ss k p after in
+            up-cleanup k pad (e ∙ ap (Pad pad) q) (omega arith) (u after)
+        go (Catches q) =
+            let this : Chosen n (sp a (x .file)) ≡ Chosen k p = sym (on-catch a n x (Pad pad action) rest q) ∙ o in
+            let number : n ≡ k = cc in
+            up-catch k pad (e ∙ ap (Pad pad) q) (sym number)
+        go (Terminates q) =
+            let this : Stopped ≡ Chosen k p = sym (on-terminate a n x (Pad pad action) rest q) ∙ o in
+            let z : _≡_ {A = ℕ} 0 1 = cc in absurd (omega arith)
 
-    -- 5 exactly where there is neither
-    pub ends : outcomeFrom a section n ss ≡ Ended ↔ Neither a section n ss
-    ends = (λ e. go e (says n ss), neither-says n ss)
-      where
-        go : outcomeFrom a section n ss ≡ Ended → Says n ss (outcomeFrom a section n ss) → Neither a section n ss
-        go e (Chooses f p) = let z : _≡_ {A = ℕ} 0 1 = cc in absurd (omega arith)
-        go e (Stops f p) = let z : _≡_ {A = ℕ} 0 1 = cc in absurd (omega arith)
-        go e (Ends none p) = none
+  -- where a catch is chosen, the landings are exactly those up to it
+  pub up-to : (n : ℕ) (ss : List Standing) (k p : ℕ) → outcomeFrom a section n ss ≡ Chosen k p →
+      UpToCatch a section n ss k (landingsFrom a section n ss)
+  up-to n [] k p e = let z : _≡_ {A = ℕ} 0 1 = cc in absurd (omega arith)
+  up-to n (x ∷ ss) k p e = up-by n x ss k p (rowOf a section x) refl e (λ q. up-to (n + 1) ss k p q)
 
-    -- a number and an sp exactly where the first such row is a catch, with that number and that sp at its frame's call
-    pub chooses : (k p : ℕ) → outcomeFrom a section n ss ≡ Chosen k p ↔ FirstCatch a section n ss k p
-    chooses k p = (
-      λ e. go e (says n ss),
-      λ (c : FirstCatch a section n ss k p).
-          first-says Catch (λ j s. Chosen j (sp a (s .file))) on-catch n ss (c .first) ∙ rw (c .isNumber, c .isSp),
-    )
-      where
-        go : outcomeFrom a section n ss ≡ Chosen k p → Says n ss (outcomeFrom a section n ss) → FirstCatch a section n ss k p
-        go e (Chooses f q) =
-            let number : f .number ≡ k = cc in
-            let pointer : sp a (f .frame .file) ≡ p = cc in
-            record { first = f; isNumber = number; isSp = pointer }
-        go e (Stops f q) = let z : _≡_ {A = ℕ} 0 1 = cc in absurd (omega arith)
-        go e (Ends none q) = let z : _≡_ {A = ℕ} 0 1 = cc in absurd (omega arith)
+-- exactly, of every machine and throw
+pub exactly : (m : Machine) (t : Throw) → Exactly m t
+unfolding outcome due
+exactly m t =
+    record {
+      stops = stops a section 0 ss;
+      ends = ends a section 0 ss;
+      chooses = chooses a section 0 ss;
+      nothing = (λ e. none (outcome m t) refl e, λ e. ⊎-elim (λ (o : outcome m t ≡ Stopped). rw o) (λ (o : outcome m t ≡ Ended). rw o) e);
+      lands = λ k p e. subst (UpToCatch a section 0 ss k) (sym (ap (λ (o : Searched). dueBy o ls) e)) (up-to a section 0 ss k p e);
+    }
+  where
+    a : Arch
+    a = numbers (m .arch)
+
+    section : Region
+    section = m .section
+
+    ss : List Standing
+    ss = framesAt m t
+
+    ls : List Landing
+    ls = landingsFrom a section 0 ss
+
+    some : (ks : List Landing) (l : Landing) → ks ++ l ∷ [] ≡ [] → ⊥
+    some [] l e = let z : _≡_ {A = ℕ} 0 1 = cc in absurd (omega arith)
+    some (k ∷ ks) l e = let z : _≡_ {A = ℕ} 0 1 = cc in absurd (omega arith)
+
+    none : (o : Searched) → outcome m t ≡ o → dueBy o ls ≡ [] → (outcome m t ≡ Stopped) ⊎ (outcome m t ≡ Ended)
+    none (Chosen k p) e d =
+        let u = up-to a section 0 ss k p e in
+        absurd (some (u .cleanups) (u .last) (sym (u .split) ∙ d))
+    none Stopped e d = inl e
+    none Ended e d = inr e

@@ -30,3 +30,6 @@ pub mod Searching
 pub mod Landings
 pub mod Sweeping
 pub mod Calls
+pub mod FirstRow
+pub mod Exactly
+pub mod Corollaries

@@ -75,7 +75,7 @@ pub then-finished : (m : Machine) (t : Throw) (exception : ℕ) → EveryLanding
     Admissible m (unwindingOf m t exception) cs → (k : ℕ) → length (due m t) ≤ k → k < length (answers (numbers (m .arch)) cs) →
     getElem? (answers (numbers (m .arch)) cs) k ≡ some Finished
 then-finished m t exception every cs admissible k past less =
-    ap (λ (gs : List Given). getElem? gs k) (every .lands cs admissible)
+    ap (λ (gs : List Given). getElem? gs k) (every .lands cs admissible .1)
     ∙ first-finished (length (answers (numbers (m .arch)) cs)) (due m t) k past less
 
 -- a stack that agrees on the live slots holds the kept values in them
@@ -132,5 +132,5 @@ module _
         answers (numbers (m .arch)) cs ≡ answers (numbers (m .arch)) ds
     unfolding due outcome
     other-answers exception exception′ cs ds c d e =
-        other-every exception .lands cs c
-        ∙ (ap (λ (n : ℕ). firstOf n (due m t)) e ∙ sym (every-landing m i t allowed s exception′ .lands ds d))
+        other-every exception .lands cs c .1
+        ∙ (ap (λ (n : ℕ). firstOf n (due m t)) e ∙ sym (every-landing m i t allowed s exception′ .lands ds d .1))

@@ -1,4 +1,5 @@
--- What follows from demand 3: at most 1,024 landings, then finished; and stacks that agree on live slots give the same. Assumes nothing.
+-- What follows from demand 3: at most 1,024 landings, then finished; and stacks that agree on live slots give the same. The invariant
+-- holds of every machine that events make of a fresh one (`Steps`). Assumes nothing.
 use mathlib.Core.Bool.{Bool, true, false}
 use mathlib.Core.List.{List, [], _∷_, List·Memᴰ, List·Memᴰ·head, List·Memᴰ·tail}
 use mathlib.Core.Option.{Option, some}
@@ -92,7 +93,7 @@ other-live a stack other (f ∷ fs) live same = (
 module _
     (m : Machine) (i : Inv m) (other : Region) (accepted : opens (lentBy (withStack m other)) ≡ true)
     (same : SameLive (m .stack) other (m .frames)) where
-  -- so the invariant holds of the machine with that stack
+  -- so the invariant holds of the machine with that stack too
   pub other-inv : Inv (withStack m other)
   other-inv =
       record {
@@ -118,6 +119,11 @@ module _
     other-every =
         every-landing (withStack m other) other-inv t (other-throwable t (m .frames) ∙ allowed)
         (record { tables = s .tables; frames = s .frames })
+
+    -- what is expected does not look at the stack
+    pub other-expected : (outcome (withStack m other) t ≡ outcome m t) × (due (withStack m other) t ≡ due m t)
+    unfolding outcome due
+    other-expected = (refl, refl)
 
     -- the throw answers the same
     pub other-throws : raisedBy (withStack m other) t ≡ raisedBy m t

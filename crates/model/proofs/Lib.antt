@@ -32,4 +32,5 @@ pub mod Sweeping
 pub mod Calls
 pub mod FirstRow
 pub mod Exactly
+pub mod ValidRows
 pub mod Corollaries

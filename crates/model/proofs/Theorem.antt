@@ -62,7 +62,7 @@ module _ (m : Machine) (i : Inv m) where
       getD-set-other (m .registers) pcColumn (numbers (m .arch) .sp) (t .pc) 0 (λ e. omega arith)
 
   -- the frames at a throw within the rules
-  thrown-chain : (t : Throw) → throwAllowed m t ≡ true → Chain (m .arch) (m .section) true (t .interrupted) (thrown m t) (m .frames)
+  pub thrown-chain : (t : Throw) → throwAllowed m t ≡ true → Chain (m .arch) (m .section) true (t .interrupted) (thrown m t) (m .frames)
   unfolding throwAllowed
   thrown-chain t = go (m .frames) (i .inner)
     where

@@ -24,7 +24,7 @@ abbrev pub Catch : Found → Type 0
 Catch None = ⊥
 Catch (Pad pad action) = action ≡ Row.catch
 
--- a terminate row: one that is neither cleanup nor catch (no row of a sound section has a fourth action)
+-- a terminate row: one that is neither cleanup nor catch; in a sound section its action is 2 (proofs/ValidRows)
 abbrev pub Terminate : Found → Type 0
 Terminate None = ⊥
 Terminate (Pad pad action) = (action ≢ cleanup) × (action ≢ Row.catch)

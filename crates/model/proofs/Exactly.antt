@@ -1,9 +1,9 @@
 -- Exactly the landings up to the first catch are due, and none where 3 or 5 is answered. Assumes nothing.
 use mathlib.Core.Bool.{Bool, true, false}
 use mathlib.Core.List.{List, [], _∷_, _++_, List·Memᴰ, List·Memᴰ·head, List·Memᴰ·tail, List·Memᴰ·not-nil, List·Memᴰ·cases-cons}
-use mathlib.Core.Logic.{_⊎_, inl, inr, ⊎-elim, _↔_}
+use mathlib.Core.Logic.{_⊎_, inl, inr, ⊎-elim}
 use mathlib.Core.Path.{_≡_, refl, sym, _∙_, ap, subst}
-use Prim.Native.Nat.{ℕ, _+_, _≤_, _<_}
+use Prim.Native.Nat.{ℕ, _+_, _<_}
 use native.Mathlib.Omega.{arith}
 use lib.Dec.{eqb}
 use Rattle.failure.specs.Choice.{if_then_else_}
@@ -17,7 +17,8 @@ use Rattle.model.specs.Throw.{Throw, Standing, framesAt, rowOf}
 use Rattle.model.specs.Expected.{Landing, landingOf, outcomeBy, outcomeFrom, landingsBy, landingsFrom, outcome, due, dueBy}
 use Rattle.model.specs.Exactly.{Numbered, LandingAt, CleanupBelow, Rising, UpToCatch, Exactly}
 use Rattle.model.proofs.Sweeping.{chosen-above}
-use Rattle.model.proofs.FirstRow.{Kind, Passes, Catches, Terminates, kind, numbered-above, on-passed, on-catch, on-terminate, stops, ends, chooses}
+use Rattle.model.proofs.FirstRow.{Kind, Passes, Catches, Terminates, kind, numbered-above, on-passed, on-catch, on-terminate}
+use Rattle.model.proofs.FirstRow.{stops, ends, chooses}
 
 module _ (a : Arch) (section : Region) where
   -- numbers rise strictly along the landings

@@ -1,13 +1,12 @@
 -- A throw answers 3, 5 or a catch exactly by the first row that is catch or terminate. Assumes nothing.
 use mathlib.Core.Bool.{Bool, true, false}
 use mathlib.Core.List.{List, [], _∷_}
-use mathlib.Core.Logic.{_⊎_, inl, inr, _↔_}
+use mathlib.Core.Logic.{inl, inr, _↔_}
 use mathlib.Core.Path.{_≡_, refl, sym, _∙_, subst}
-use Prim.Native.Nat.{ℕ, _+_, _≤_, _<_}
+use Prim.Native.Nat.{ℕ, _+_, _≤_}
 use native.Mathlib.Omega.{arith}
 use lib.Dec.{eqb}
 use borrow.Author.Tests.{eqb-true, eqb-false, ne-eqb}
-use Rattle.failure.specs.Choice.{if_then_else_}
 use Rattle.mem.specs.Memory.{Region}
 use Rattle.arch.specs.Arch.{Arch}
 use Rattle.arch.specs.File.{sp}

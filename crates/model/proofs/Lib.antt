@@ -34,3 +34,8 @@ pub mod FirstRow
 pub mod Exactly
 pub mod ValidRows
 pub mod Corollaries
+pub mod Rules
+pub mod Runs
+pub mod RunsAarch64
+pub mod RunsX86
+pub mod RunsHold

@@ -45,8 +45,8 @@ module _ (m : Machine) (accepted : opens (lentBy m) ≡ true) (known : isKnown (
   unfolding sweptBy
   later-given n u ls s g =
       let same : nth n (s .rest) ≡ nth (suc n) ls =
-          sym (nth-first n (s .rest)) ∙
-          (sym (ap (λ (gs : List Given). getD gs (suc n) Finished) (s .next (suc n))) ∙ nth-first (suc n) ls) in
+      sym (nth-first n (s .rest)) ∙
+      (sym (ap (λ (gs : List Given). getD gs (suc n) Finished) (s .next (suc n))) ∙ nth-first (suc n) ls) in
       rw (s .is)
       (subst
       (Gives (numbers (m .arch)) (resume (lentBy m) (m .arch) (after n (lentBy m) (m .arch) (resumed u (Answer (s .answer))))))
@@ -64,11 +64,10 @@ module _ (m : Machine) (accepted : opens (lentBy m) ≡ true) (known : isKnown (
 at-throw : (m : Machine) → Inv m → (t : Throw) → throwAllowed m t ≡ true → Sound m t → (exception n : ℕ) →
     (raisedBy m t ≡ Answer (outcome m t))
     × Gives (numbers (m .arch)) (resume (lentBy m) (m .arch) (after n (lentBy m) (m .arch) (unwindingOf m t exception))) (nth n (due m t))
-at-throw m i t allowed s exception n =
-    (
-      throws m i t allowed s,
-      gives m (i .accepted) (i .known) (walks m i (s .tables)) n (unwindingOf m t exception) (due m t) (starts m i t allowed s exception)
-    )
+at-throw m i t allowed s exception n = (
+  throws m i t allowed s,
+  gives m (i .accepted) (i .known) (walks m i (s .tables)) n (unwindingOf m t exception) (due m t) (starts m i t allowed s exception),
+)
 
 -- demand 3, for whatever a call is given
 pub promised : (l : Lent) (arch : ℕ) (file : List ℕ) (pc : ℕ) (interrupted : Bool) (exception n : ℕ) →

@@ -15,7 +15,8 @@ ghost use Rattle.model.specs.FrameStep as Walk;
 ghost use Rattle.model.specs.Search as Search;
 ghost use Rattle.model.specs.Cleanup as Cleanup;
 ghost use Rattle.model.specs.Unwinding as Spec;
-ghost use Rattle.unwind.specs.Answers.{frameAt, callerOf, stepped, searched, raisedBy, unmoved, resumedBy};
+ghost use Rattle.model.specs.Call.{Promised};
+ghost use Rattle.unwind.specs.Answers.{frameAt, callerOf, stepped, searched, raisedBy, unmoved, resumedBy, swept, callNumber, unwoundBy};
 ghost use Rattle.unwind.specs.Turns.{Follows, SearchTurn, Searches, Lands, Below, AtChosen, ByRow, SweepTurn, Sweeps};
 use arch::Next;
 use arch::Regs;
@@ -89,6 +90,12 @@ pub struct Resumed {
     pub answer: ResumeAnswer,
     pub regs: Regs,
     pub unwinding: Unwinding,
+}
+
+// A throw, and one of the calls after it.
+pub struct Unwound {
+    pub raised: RaiseAnswer,
+    pub resumed: Resumed,
 }
 
 // A turn of the search: it goes on with the next frame, or stops.
@@ -834,4 +841,81 @@ pub fn resume<'a>(
         return kept(ResumeAnswer::Finished, unwinding);
     }
     sweep(section, section_base, stack, stack_base, arch, unwinding)
+}
+
+// A throw and the calls after it.
+
+// Call number n of resume, counted from 0, each with what the one before it handed back.
+fn resume_nth<'a>(
+    section: &'a [u8],
+    section_base: usize,
+    stack: &'a [u8],
+    stack_base: usize,
+    arch: u8,
+    unwinding: Unwinding,
+    n: usize,
+) -> Resumed
+    ensures { λ r. ⌜
+        r ≡ callNumber n
+        (lent (now (section .entry)) «section_base» (now (stack .entry)) «stack_base»)
+        arch unwinding
+        ⌝ }
+{
+    let mut u = unwinding;
+    let mut i = 0;
+    while i < n {
+        let resumed = resume(section, section_base, stack, stack_base, arch, u);
+        u = resumed.unwinding;
+        i = i + 1;
+    }
+    resume(section, section_base, stack, stack_base, arch, u)
+}
+
+// raise, then n + 1 calls of resume: the answers of the throw and of the last call. At a machine's throw they are those of document
+// 01's demand 3.
+pub fn unwind<'a>(
+    section: &'a [u8],
+    section_base: usize,
+    stack: &'a [u8],
+    stack_base: usize,
+    arch: u8,
+    regs: Regs,
+    pc: usize,
+    interrupted: bool,
+    exception: usize,
+    n: usize,
+) -> Unwound
+    ensures { λ r. ⌜
+        (r ≡ unwoundBy n
+        (lent (now (section .entry)) «section_base» (now (stack .entry)) «stack_base»)
+        arch (regs .r) pc interrupted exception)
+        × Promised (lent (now (section .entry)) «section_base» (now (stack .entry)) «stack_base»)
+        arch (regs .r) pc interrupted n (searched (r .raised)) (swept (r .resumed))
+        ⌝ }
+{
+    let raised = raise(
+        section,
+        section_base,
+        stack,
+        stack_base,
+        arch,
+        regs,
+        pc,
+        interrupted,
+        exception,
+    );
+    let resumed = resume_nth(
+        section,
+        section_base,
+        stack,
+        stack_base,
+        arch,
+        raised.unwinding,
+        n,
+    );
+    let answer = raised.answer;
+    Unwound {
+        raised: answer,
+        resumed,
+    }
 }

@@ -10,13 +10,13 @@ ghost use Rattle.mem.specs.Opening.{opens};
 ghost use Rattle.arch.specs.Arch.{numbers, isKnown};
 ghost use Rattle.arch.specs.File.{sp, pc};
 ghost use Rattle.arch.specs.Answers.{next};
-ghost use Rattle.rows.specs.Row.{Pad, found};
+ghost use Rattle.rows.specs.Row.{found};
 ghost use Rattle.model.specs.FrameStep as Walk;
 ghost use Rattle.model.specs.Search as Search;
 ghost use Rattle.model.specs.Cleanup as Cleanup;
 ghost use Rattle.model.specs.Unwinding as Spec;
 ghost use Rattle.model.specs.Call.{Promised};
-ghost use Rattle.unwind.specs.Answers.{frameAt, callerOf, stepped, searched, raisedBy, unmoved, resumedBy, swept, callNumber, unwoundBy};
+ghost use Rattle.unwind.specs.Answers.{frameAt, stepped, searched, raisedBy, unmoved, resumedBy, swept, callNumber, unwoundBy};
 ghost use Rattle.unwind.specs.Turns.{Follows, SearchTurn, Searches, Lands, Below, AtChosen, ByRow, SweepTurn, Sweeps};
 use arch::Next;
 use arch::Regs;
@@ -756,15 +756,14 @@ fn sweep_frame<'a>(
     Swept { met, next }
 }
 
-// The unwinding that goes on from the frame that a step hands back.
-fn going_on(unwinding: Unwinding, next: Stepped) -> Unwinding
-    ensures { λ r. ⌜ r ≡ Spec.goingOn unwinding (callerOf next) ⌝ }
+// The unwinding that goes on from a frame.
+fn going_on(unwinding: Unwinding, number: usize, interrupted: bool, regs: Regs) -> Unwinding
+    ensures { λ r. ⌜ r ≡ Spec.goingOn unwinding (frameAt number interrupted regs) ⌝ }
 {
-    let regs = next.regs;
     Unwinding {
         regs,
-        number: next.number,
-        interrupted: next.interrupted,
+        number,
+        interrupted,
         ..unwinding
     }
 }
@@ -801,15 +800,16 @@ fn sweep<'a>(
     loop {
         let swept = sweep_frame(section, section_base, stack, stack_base, arch, u);
         let next = swept.next;
+        let file = next.regs;
         let met = swept.met;
         let regs = met.regs;
         let turn = met.turn;
         match turn {
-            Sweeping::On => u = going_on(u, next),
+            Sweeping::On => u = going_on(u, next.number, next.interrupted, file),
             Sweeping::Landing => return Resumed {
                 answer: ResumeAnswer::Landing(u.number),
                 regs,
-                unwinding: going_on(u, next),
+                unwinding: going_on(u, next.number, next.interrupted, file),
             },
             Sweeping::Fatal => return kept(ResumeAnswer::Fatal, unwinding),
             Sweeping::Refused(n) => return kept(ResumeAnswer::Refused(n), unwinding),

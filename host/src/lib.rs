@@ -10,6 +10,29 @@
 //! let memory = Memory { section: &[], section_base: 0x1000, stack: &[], stack_base: 0x2000 };
 //! assert_eq!(memory.lookup(Arch::X86_64, 0x1234), Ok(None));
 //! ```
+//!
+//! A throw is [`Memory::raise`], and after it [`Memory::resume`] until it has finished: each gives the next landing.
+//!
+//! ```
+//! use morthwyga::{Arch, Memory, Raised, Regs, Resumed};
+//!
+//! // One function, 5000 to 5010 hexadecimal. Its call that returns to 5005 has a catch with the pad 5008.
+//! let section = [
+//!     0x45, 0x4b, 0x55, 0x57, 2, 2, 1, 0, 1, 0, 0, 0, 32, 0, 0, 0, // a chunk of version 2 for x86-64 with 1 record, 32 bytes
+//!     0xf0, 0x3f, 0, 0, 16, 0, 0, 0, 28, 0, 0, 0x80, // its start from here, its length, its program at 28 with rows
+//!     0x00, 0x01, 0x05, 0x21, // END; 1 row: offset 5, pad 8, catch
+//! ];
+//! // On the stack its return address, 0: nobody called it.
+//! let memory = Memory { section: &section, section_base: 0x1000, stack: &[0; 8], stack_base: 0x2000 };
+//! let mut regs = Regs { r: [0; 41] };
+//! regs.r[7] = 0x2000;
+//!
+//! let (raised, unwinding) = memory.raise(Arch::X86_64, regs, 0x5005, false, 77);
+//! assert_eq!(raised, Ok(Raised::Chosen { number: 0, sp: 0x2000 }));
+//! let Ok(Resumed::Landing { number: 0, regs, next }) = memory.resume(Arch::X86_64, unwinding) else { panic!() };
+//! assert_eq!((regs.pc(), regs.r[0]), (0x5008, 77));
+//! assert_eq!(memory.resume(Arch::X86_64, next), Ok(Resumed::Finished));
+//! ```
 mod raw;
 
 /// An architecture, by the number that an EKO section names it with.
@@ -167,60 +190,6 @@ impl Reason {
     }
 }
 
-/// A frame of a walk: its number, counted from 0, the innermost; whether it was interrupted; its registers.
-#[derive(Clone, Copy, PartialEq, Eq, Debug)]
-pub struct Frame {
-    pub number: usize,
-    pub interrupted: bool,
-    pub regs: Regs,
-}
-
-/// What a throw comes to.
-#[derive(Clone, Copy, PartialEq, Eq, Debug)]
-pub enum Raised {
-    /// The first frame that catches, by its number and stack pointer.
-    Chosen { number: usize, sp: usize },
-    /// A row that terminates came first (reason 3).
-    Terminated,
-    /// No frame catches (reason 5).
-    EndOfStack,
-}
-
-/// An unwinding between two calls of [`Memory::resume`]: the frame that comes next, the exception, and the chosen frame. Hand
-/// it back as you got it.
-#[derive(Clone, Copy, PartialEq, Eq, Debug)]
-#[repr(C)]
-pub struct Unwinding {
-    pub regs: Regs,
-    pub number: usize,
-    pub interrupted: bool,
-    pub exception: usize,
-    pub chosen: bool,
-    pub chosen_number: usize,
-    pub chosen_sp: usize,
-}
-
-/// What a resume call comes to.
-#[derive(Clone, Copy, PartialEq, Eq, Debug)]
-pub enum Resumed {
-    /// The landing of a frame, by its number: go on with these registers, whose pc is its pad, and resume with `next`.
-    Landing { number: usize, regs: Regs, next: Unwinding },
-    /// A row that terminates lies below the chosen frame (reason 2).
-    Terminated,
-    /// The chosen frame has landed, or none was chosen.
-    Finished,
-}
-
-impl Raised {
-    fn of(a: &raw::Raised) -> Raised {
-        match a.reason {
-            3 => Raised::Terminated,
-            5 => Raised::EndOfStack,
-            _ => Raised::Chosen { number: a.number, sp: a.sp },
-        }
-    }
-}
-
 /// The values, unless the status is a refusal's.
 fn answered<T>(status: u32, values: T) -> Result<T, Failure> {
     if status == 0 { Ok(values) } else { Err(Failure::of(status)) }
@@ -325,6 +294,9 @@ macro_rules! lend {
     }};
 }
 
+mod unwinding;
+pub use unwinding::{Frame, Raised, Resumed, Unwinding};
+
 impl Memory<'_> {
     /// The record of the function that pc lies in.
     pub fn lookup(self, arch: Arch, pc: usize) -> Result<Option<Record>, Failure> {
@@ -381,32 +353,5 @@ impl Memory<'_> {
         let cleanup = phase == Phase::Cleanup;
         let a = lend!(self, eko_personality, arch as u8, cleanup, exception, interrupted, function, regs);
         answered(a.status, (a.reason, a.regs)).map(|(reason, regs)| (Reason::of(reason), regs))
-    }
-
-    /// The record of a frame and its caller; none past the last frame. A walk starts at frame 0 and goes on with each caller.
-    pub fn next_frame(self, arch: Arch, frame: Frame) -> Result<Option<(Record, Frame)>, Failure> {
-        let a = lend!(self, eko_next_frame, arch as u8, frame.number, frame.interrupted, frame.regs);
-        optional(a.status, (a.function, Frame { number: a.number, interrupted: a.interrupted, regs: a.regs }))
-    }
-
-    /// A throw: the search phase from frame 0, which has these registers and this pc. The unwinding goes to [`Memory::resume`].
-    pub fn raise(
-        self,
-        arch: Arch,
-        regs: Regs,
-        pc: usize,
-        interrupted: bool,
-        exception: usize,
-    ) -> Result<(Raised, Unwinding), Failure> {
-        let a = lend!(self, eko_raise, arch as u8, regs, pc, interrupted, exception);
-        answered(a.status, (Raised::of(&a), a.unwinding))
-    }
-
-    /// The next landing of an unwinding, in the memory that the throw was lent. After a refusal the unwinding is as it was.
-    pub fn resume(self, arch: Arch, unwinding: Unwinding) -> Result<Resumed, Failure> {
-        let a = lend!(self, eko_resume, arch as u8, unwinding);
-        let landing = Resumed::Landing { number: a.number, regs: a.regs, next: a.unwinding };
-        let answer = if a.reason == Reason::InstallContext as u32 { landing } else { Resumed::Terminated };
-        optional(a.status, answer).map(|answer| answer.unwrap_or(Resumed::Finished))
     }
 }

@@ -58,9 +58,8 @@ impl Check<'_> {
     pub fn throw(&self, random: &mut Random, figures: &mut Figures) -> Checked {
         let (memory, arch) = (self.memory(), self.machine.numbers().arch);
         let regs = Regs { r: self.machine.registers };
-        let raised = memory.raise(arch, regs, self.throw.pc, self.throw.interrupted, self.exception);
-        let (answer, mut unwinding) = raised.map_err(|failure| format!("the throw is refused: {failure:?}"))?;
-        if answer != self.expected.answer {
+        let (answer, mut unwinding) = memory.raise(arch, regs, self.throw.pc, self.throw.interrupted, self.exception);
+        if answer != Ok(self.expected.answer) {
             return Err(format!("the throw answers {answer:?}, not {:?}", self.expected.answer));
         }
         for landing in &self.expected.landings {

@@ -14,8 +14,6 @@ mod random;
 #[path = "../../raw.rs"]
 mod raw;
 mod rows;
-#[path = "/tmp/w/host/scratch/standin.rs"]
-mod standin;
 mod section;
 mod state;
 

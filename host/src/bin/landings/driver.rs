@@ -53,8 +53,21 @@ impl<'a> Driver<'a, '_> {
         (0..12).any(|_| {
             let function = self.callee(last);
             let ret = self.ready();
+            if self.random.once_in(4) {
+                self.set_fp_for(function);
+            }
             self.event(Event::Call { function, ret })
         })
+    }
+
+    /// The caller's fp as a callee that has it as base and does not save it would want it.
+    fn set_fp_for(&mut self, function: usize) {
+        let (numbers, function) = (self.machine.numbers(), &self.machine.section.functions[function]);
+        let mut states = function.places.iter().filter_map(|off| function.state(numbers, false, *off));
+        if let Some(state) = states.find(|state| state.fp && !state.saves(numbers.fp)) {
+            let value = numbers.stack_pointer(&self.machine.registers).wrapping_sub(8 * state.units);
+            self.event(Event::Change { reg: numbers.fp as usize, value });
+        }
     }
 
     fn callee(&mut self, last: bool) -> usize {

@@ -20,6 +20,8 @@ pub struct Figures {
     pub frames: usize,
     pub version1: usize,
     pub on_fp: usize,
+    /// Frames with fp as base that have not saved it: their caller had set it.
+    pub given_fp: usize,
     /// Frames with the return address in its register alone.
     pub unsaved: usize,
     pub machines: usize,
@@ -54,6 +56,7 @@ impl Figures {
             ("open frames at the throws", self.frames),
             ("of them version 1", self.version1),
             ("of them with fp as base", self.on_fp),
+            ("of them with fp as base, not saved", self.given_fp),
             ("of them with the return register unsaved", self.unsaved),
             ("machines", self.machines),
             ("events within the rules", self.events),

@@ -117,7 +117,8 @@ fn count(machine: &Machine, throw: Throw, expected: &expected::Expected, figures
         let state = function.state(numbers, frame.interrupted, at - function.start);
         figures.frames += 1;
         figures.version1 += matches!(function.code, Code::Word(_)) as usize;
-        figures.on_fp += state.is_some_and(|state| state.fp) as usize;
+        figures.on_fp += state.as_ref().is_some_and(|state| state.fp) as usize;
+        figures.given_fp += state.is_some_and(|state| state.fp && !state.saves(numbers.fp)) as usize;
         figures.unsaved += !frame.open.spilled.iter().any(|(reg, _)| *reg == numbers.ra) as usize;
     }
 }

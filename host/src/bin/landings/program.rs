@@ -204,16 +204,16 @@ impl Writer<'_> {
     fn odd(&mut self) {
         let slot = self.random.within(1, 40) as u16;
         let reg = self.random.below(32) as u16;
-        let units = self.random.below(40);
-        match self.random.below(9) {
+        let units = self.random.below(12);
+        match self.random.below(12) {
             0 => self.base(false, units),
-            1 => self.base(true, units),
-            2 => self.units((self.state.units + 1) * 0x1000_0000 % 0x1_0000_0000),
-            3 => self.save(self.numbers.sp, slot),
-            4 => self.save(200, slot),
-            5 => self.save(reg, 65535),
-            6 => self.restore(reg),
-            7 => self.save(self.numbers.ra, slot),
+            1..=4 => self.base(true, units),
+            5 => self.units((self.state.units + 1) * 0x1000_0000 % 0x1_0000_0000),
+            6 => self.save(self.numbers.sp, slot),
+            7 => self.save(200, slot),
+            8 => self.save(reg, 65535),
+            9 => self.restore(reg),
+            10 => self.save(self.numbers.ra, slot),
             _ => self.save(reg, slot),
         }
     }

@@ -48,7 +48,7 @@ impl<'a> Driver<'a, '_> {
         done
     }
 
-    /// A frame more, called from the innermost one, or the first. A frame that the throw follows may be one that cannot call.
+    /// A frame more, called from the innermost one, or the first. The last one before a throw may be one that cannot call.
     pub fn call(&mut self, last: bool) -> bool {
         (0..12).any(|_| {
             let function = self.callee(last);
@@ -76,10 +76,9 @@ impl<'a> Driver<'a, '_> {
         if let Some(frame) = self.machine.open.last().filter(|_| self.random.once_in(4)) {
             return frame.function;
         }
-        let calls = |i: &usize| !functions[*i].calls.is_empty();
-        let sound = |i: &usize| if last { !functions[*i].damaged || self.machine.open.len() == 1 } else { calls(i) };
-        let near = (any..functions.len()).chain(0..any).find(sound);
-        near.unwrap_or(any)
+        let unsound = self.random.once_in(20);
+        let fits = |i: &usize| if last { unsound || !functions[*i].damaged } else { !functions[*i].calls.is_empty() };
+        (any..functions.len()).chain(0..any).find(fits).unwrap_or(any)
     }
 
     /// Makes the innermost frame one that can call, and gives the return address.

@@ -10,6 +10,8 @@ pub struct Landing {
     /// The frame's registers at its call.
     pub file: File,
     pub pc: usize,
+    /// The sum of start and pad is 2^64 or more.
+    pub wraps: bool,
 }
 
 pub struct Expected {
@@ -50,5 +52,6 @@ pub fn expected(machine: &Machine, throw: Throw) -> Option<Expected> {
 
 fn landing(machine: &Machine, number: usize, frame: &Frame, row: Row) -> Landing {
     let start = machine.section.functions[frame.open.function].start;
-    Landing { number, file: frame.file, pc: start.wrapping_add(row.pad as usize) }
+    let (pc, wraps) = start.overflowing_add(row.pad as usize);
+    Landing { number, file: frame.file, pc, wraps }
 }

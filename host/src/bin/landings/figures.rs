@@ -7,6 +7,8 @@ pub struct Figures {
     /// By the answer: 3, 5, 6.
     pub answers: [usize; 7],
     pub landings: usize,
+    /// Those whose pc is a sum that wraps.
+    pub wrapped: usize,
     pub finished: usize,
     /// Irregular calls that were refused, and others, which do not count.
     pub irregular: usize,
@@ -48,6 +50,7 @@ impl Figures {
             ("ended in 3", self.answers[3]),
             ("ended in 5", self.answers[5]),
             ("landings", self.landings),
+            ("of them at a pc that wraps", self.wrapped),
             ("most landings of a throw", self.most_landings),
             ("finished", self.finished),
             ("irregular calls refused", self.irregular),

@@ -109,6 +109,7 @@ fn count(machine: &Machine, throw: Throw, expected: &expected::Expected, figures
     figures.interrupts += throw.interrupted as usize;
     figures.answers[check::code(&expected.answer)] += 1;
     figures.landings += expected.landings.len();
+    figures.wrapped += expected.landings.iter().filter(|landing| landing.wraps).count();
     figures.most_landings = figures.most_landings.max(expected.landings.len());
     figures.depth(machine.open.len());
     for frame in machine.frames(throw) {

@@ -45,11 +45,11 @@ fn on_sp<'a>(units: u64, pairs: &'a [Pair]) -> State<'a> {
 }
 
 /// The preserved registers of the SAVED table, without fp.
-fn saved(arch: u64) -> &'static [u64] {
+pub fn saved(arch: u64) -> &'static [u64] {
     if arch == 1 { &[19, 20, 21, 28, 72, 79] } else { &[3, 12, 13, 14, 15] }
 }
 
-fn ra(arch: u64) -> u64 {
+pub fn ra(arch: u64) -> u64 {
     if arch == 1 { 30 } else { 16 }
 }
 

@@ -4,12 +4,15 @@ mod apply;
 mod file;
 mod handler;
 mod handler2;
+mod large;
 mod lookup;
 mod memory;
 mod personality;
 mod program;
 mod random;
 mod registers;
+mod sample;
+mod short;
 mod step;
 mod uleb;
 
@@ -28,7 +31,8 @@ fn main() {
         _ => None,
     };
     let Some(list) = list else {
-        eprintln!("usage: generate MODULE ARCH [SEED], where MODULE is foundation, lookup, frame, program or rows and ARCH 1 or 2");
+        eprintln!("usage: generate MODULE ARCH [SEED], where ARCH is 1 or 2 and MODULE one of");
+        eprintln!("foundation, lookup, frame, program, rows; short, lengths, damaged, touching, openings");
         exit(2);
     };
     let mut seen = HashSet::new();
@@ -48,6 +52,11 @@ fn requests(module: &str, arch: &str, seed: &str) -> Option<Vec<String>> {
         "frame" => Some(frame(arch, random)),
         "program" => Some(program::requests(random)),
         "rows" => Some(rows(arch, random)),
+        "short" => Some(short::requests(arch)),
+        "lengths" => Some(large::lengths(arch, random)),
+        "damaged" => Some(large::damaged(arch, random)),
+        "touching" => Some(large::touching(arch, random)),
+        "openings" => Some(large::openings(arch, random)),
         _ => None,
     }
 }

@@ -51,7 +51,7 @@ fn counted(count: u32, rows: &[Row]) -> Vec<u8> {
 }
 
 /// A valid row; the return offset gives its pad and action.
-fn valid(ret: u32) -> Row {
+pub fn valid(ret: u32) -> Row {
     let action = ret % 3;
     (ret, if action == 2 { 0 } else { ret / 2 + 1 }, action)
 }

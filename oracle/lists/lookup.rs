@@ -11,7 +11,7 @@ const MAGIC: u32 = 0x5755_4b45;
 /// A record before it is written: version 1 has `first` as frame and `second` as handler offset,
 /// version 2 has `first` as data.
 #[derive(Clone, Copy)]
-struct Row {
+pub struct Row {
     start: u64,
     len: u32,
     first: u32,
@@ -20,11 +20,11 @@ struct Row {
 
 /// A chunk before it is written, with bytes after its records.
 #[derive(Clone)]
-struct Chunk {
-    arch: u64,
-    version: u8,
-    rows: Vec<Row>,
-    rest: usize,
+pub struct Chunk {
+    pub arch: u64,
+    pub version: u8,
+    pub rows: Vec<Row>,
+    pub rest: usize,
 }
 
 impl Chunk {
@@ -56,7 +56,7 @@ impl Chunk {
 }
 
 /// A section of chunks at a base, each after so many bytes of padding.
-fn section(base: u64, chunks: &[(usize, Chunk)]) -> Vec<u8> {
+pub fn section(base: u64, chunks: &[(usize, Chunk)]) -> Vec<u8> {
     let mut bytes = Vec::new();
     for (padding, chunk) in chunks {
         bytes.extend(std::iter::repeat_n(0, *padding));
@@ -65,7 +65,7 @@ fn section(base: u64, chunks: &[(usize, Chunk)]) -> Vec<u8> {
     bytes
 }
 
-fn row(start: u64, len: u32, first: u32) -> Row {
+pub fn row(start: u64, len: u32, first: u32) -> Row {
     Row { start, len, first, second: first }
 }
 

@@ -11,6 +11,11 @@ pub const NONE: Range = (1, &[]);
 /// The request's line: both ranges, then the operation with its arguments.
 pub fn request(section: Range, stack: Range, operation: &str) -> String {
     assert!(opens(section, stack), "no accepted opening: {section:?} {stack:?}");
+    any_request(section, stack, operation)
+}
+
+/// The same with ranges that may be refused.
+pub fn any_request(section: Range, stack: Range, operation: &str) -> String {
     format!("{} {} {} {} {operation}", section.0, hex(section.1), stack.0, hex(stack.1))
 }
 

@@ -243,7 +243,7 @@ fn random_run(random: &mut Random) -> String {
     }
 }
 
-fn operation(random: &mut Random, program: &mut Vec<u8>) {
+pub fn operation(random: &mut Random, program: &mut Vec<u8>) {
     let reg = random.pick(&[0, 3, 6, 12, 16, 29, 30, 31, 63]);
     let slot = random.pick(&[1, 2, 3, 4, 5, 127, 128, 65535]);
     match random.below(14) {
@@ -276,7 +276,7 @@ fn operation(random: &mut Random, program: &mut Vec<u8>) {
 }
 
 /// Base, units, count, and pairs that may go on past the count.
-fn state(fp: u64, units: u64, count: usize, pairs: &[(u64, u64)]) -> String {
+pub fn state(fp: u64, units: u64, count: usize, pairs: &[(u64, u64)]) -> String {
     let written: Vec<String> = pairs.iter().map(|(reg, slot)| format!("{reg}:{slot}")).collect();
     let pairs = if written.is_empty() { "-".to_string() } else { written.join(",") };
     format!("{fp} {units} {count} {pairs}")

@@ -24,7 +24,7 @@ pub fn requests(arch: u64, random: &mut Random) -> Vec<String> {
     list
 }
 
-fn word(kind: u64, order: u64, mask: u64, param: u64) -> u64 {
+pub fn word(kind: u64, order: u64, mask: u64, param: u64) -> u64 {
     kind | order << 2 | mask << 3 | param << 21
 }
 
@@ -33,7 +33,7 @@ fn step(section: Range, stack: Range, frame: u64, first: bool, file: &File) -> S
 }
 
 /// How many registers the SAVED table has.
-fn table(arch: u64) -> u64 {
+pub fn table(arch: u64) -> u64 {
     if arch == 1 { 18 } else { 5 }
 }
 

@@ -1,0 +1,65 @@
+//! The timing of a case.
+use std::hint::black_box;
+use std::time::Instant;
+
+/// How many inputs a case has. They are asked in turn, and are too many for a processor to learn the branches of each.
+pub const INPUTS: usize = 4096;
+
+/// How often each is timed; the least time counts.
+const ROUNDS: usize = 400;
+
+/// How long a round takes, about.
+const NANOSECONDS: f64 = 5e5;
+
+/// Checks that both answer every input alike, then prints the name, the nanoseconds of a call of the Rust and of ours, and the
+/// first divided by the second. Each is called with the number of an input. Does nothing where the program was given a word that
+/// the name does not begin with.
+pub fn measure<R, O>(
+    name: &str,
+    rust: impl FnMut(usize) -> R,
+    ours: impl FnMut(usize) -> O,
+    same: impl Fn(&R, &O) -> bool,
+) {
+    measure_over(INPUTS, name, rust, ours, same);
+}
+
+/// The same over so many inputs; at least one call is timed at once.
+pub fn measure_over<R, O>(
+    inputs: usize,
+    name: &str,
+    mut rust: impl FnMut(usize) -> R,
+    mut ours: impl FnMut(usize) -> O,
+    same: impl Fn(&R, &O) -> bool,
+) {
+    if std::env::args().nth(1).is_some_and(|word| !name.starts_with(&word)) {
+        return;
+    }
+    for i in 0..inputs {
+        assert!(same(&rust(i), &ours(i)), "{name}: the answers to input {i} differ");
+    }
+    let calls = 1.max((NANOSECONDS / round(&mut ours, 0, inputs, inputs)) as usize);
+    let (mut theirs, mut own) = (f64::MAX, f64::MAX);
+    for first in (0..ROUNDS).map(|number| number * calls) {
+        theirs = theirs.min(round(&mut rust, first, calls, inputs));
+        own = own.min(round(&mut ours, first, calls, inputs));
+    }
+    println!("{name:<46} {theirs:9.1} ns {own:9.1} ns {:6.2}x", theirs / own);
+}
+
+/// The nanoseconds of a call, over so many from the first on.
+fn round<T>(call: &mut impl FnMut(usize) -> T, first: usize, calls: usize, inputs: usize) -> f64 {
+    let start = Instant::now();
+    for i in first..first + calls {
+        black_box(&call(black_box(i % inputs)));
+    }
+    start.elapsed().as_nanos() as f64 / calls as f64
+}
+
+/// Numbers below a bound that look random, one for each input.
+pub fn picks(bound: usize) -> [usize; INPUTS] {
+    let mut seed = 0x6d6f_7274_6877_7967u64;
+    [(); INPUTS].map(|()| {
+        seed = seed.wrapping_mul(0x5851_f42d_4c95_7f2d).wrapping_add(1);
+        (seed >> 33) as usize % bound
+    })
+}

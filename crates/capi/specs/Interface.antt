@@ -157,7 +157,7 @@ raised r = raisedBy (r .unwinding) (r .answer)
 
 -- a sweep call, by its answer: reason 7 with the landing's frame number, or 2; none where it is finished
 abbrev pub resumedBy : Regs → Unwinding → ResumeAnswer → Resumed
-resumedBy regs u (resume.Landing number) =
+resumedBy regs u (resume.Install number) =
     record { status = 0; reason = installContext; number = number; regs = regs; unwinding = u }
 resumedBy regs u resume.Fatal = record { status = 0; reason = fatalPhase2; number = 0; regs = regs; unwinding = u }
 resumedBy regs u resume.Finished = record { status = 1; reason = 0; number = 0; regs = regs; unwinding = u }

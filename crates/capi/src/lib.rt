@@ -444,7 +444,7 @@ fn to_resumed(resumed: unwind::Resumed) -> Resumed
     let unwinding = resumed.unwinding;
     let answer = resumed.answer;
     match answer {
-        ResumeAnswer::Landing(number) => Resumed {
+        ResumeAnswer::Install(number) => Resumed {
             status: ANSWERED,
             reason: URC_INSTALL_CONTEXT,
             number,

@@ -18,28 +18,28 @@ use Rattle.model.specs.Search.{Searched, Chosen, Stopped, Ended}
 use Rattle.model.specs.Machine.{Open, Machine, lentBy}
 use Rattle.model.specs.Throw.{Throw, thrown, throwable, throwAllowed, Standing, standing, framesAt, rowOf}
 use Rattle.model.specs.Sound.{Sound}
-use Rattle.model.specs.Expected.{Landing, Given, Finished, landingOf, landingsBy, landingsFrom, outcome, due, dueBy, firstOf}
+use Rattle.model.specs.Expected.{LandingPad, Given, Finished, padOf, padsBy, padsFrom, outcome, due, dueBy, firstOf}
 use Rattle.model.specs.OtherStack.{SameLive, withStack}
-use Rattle.model.specs.Demand.{SweepCall, Admissible, answers, raisedBy, unwindingOf, EveryLanding}
+use Rattle.model.specs.Demand.{ResumeCall, Admissible, answers, raisedBy, unwindingOf, EveryLanding}
 use Rattle.model.proofs.Chain.{AllLive, Inv}
 use Rattle.model.proofs.Theorem.{every-landing}
 
 -- each landing is of a frame of its own
-landings-length : (a : Arch) (section : Region) (n : ℕ) (ss : List Standing) → length (landingsFrom a section n ss) ≤ length ss
-landings-length a section n [] = omega arith
-landings-length a section n (s ∷ ss) = go (rowOf a section s) (landings-length a section (n + 1) ss)
+pads-length : (a : Arch) (section : Region) (n : ℕ) (ss : List Standing) → length (padsFrom a section n ss) ≤ length ss
+pads-length a section n [] = omega arith
+pads-length a section n (s ∷ ss) = go (rowOf a section s) (pads-length a section (n + 1) ss)
   where
-    rest : List Landing
-    rest = landingsFrom a section (n + 1) ss
+    rest : List LandingPad
+    rest = padsFrom a section (n + 1) ss
 
-    acts : (l : Landing) (t u : Bool) → length rest ≤ length ss → length (if t then l ∷ rest else if u then l ∷ [] else []) ≤ suc (length ss)
+    acts : (l : LandingPad) (t u : Bool) → length rest ≤ length ss → length (if t then l ∷ rest else if u then l ∷ [] else []) ≤ suc (length ss)
     acts l true u h = omega arith
     acts l false true h = omega arith
     acts l false false h = omega arith
 
-    go : (row : Found) → length rest ≤ length ss → length (landingsBy a n s row rest) ≤ suc (length ss)
+    go : (row : Found) → length rest ≤ length ss → length (padsBy a n s row rest) ≤ suc (length ss)
     go None h = omega arith
-    go (Pad pad action) h = acts (landingOf a n s pad) (eqb action cleanup) (eqb action catch) h
+    go (Pad pad action) h = acts (padOf a n s pad) (eqb action cleanup) (eqb action catch) h
 
 -- and each frame an open one
 standing-length : (interrupted : Bool) (file : List ℕ) (fs : List Open) → length (standing interrupted file fs) ≡ length fs
@@ -51,12 +51,12 @@ pub due-few : (m : Machine) → Inv m → (t : Throw) → length (due m t) ≤ m
 unfolding due
 due-few m i t = go (outcome m t)
   where
-    ls : List Landing
-    ls = landingsFrom (numbers (m .arch)) (m .section) 0 (framesAt m t)
+    ls : List LandingPad
+    ls = padsFrom (numbers (m .arch)) (m .section) 0 (framesAt m t)
 
     go : (o : Searched) → length (dueBy o ls) ≤ maxFrames
     go (Chosen k p) =
-        let all = landings-length (numbers (m .arch)) (m .section) 0 (framesAt m t) in
+        let all = pads-length (numbers (m .arch)) (m .section) 0 (framesAt m t) in
         let frames = standing-length (t .interrupted) (thrown m t) (m .frames) in
         let few = i .few in
         omega arith
@@ -64,7 +64,7 @@ due-few m i t = go (outcome m t)
     go Ended = omega arith
 
 -- past the landings, every answer is finished
-first-finished : (n : ℕ) (ls : List Landing) (k : ℕ) → length ls ≤ k → k < n → getElem? (firstOf n ls) k ≡ some Finished
+first-finished : (n : ℕ) (ls : List LandingPad) (k : ℕ) → length ls ≤ k → k < n → getElem? (firstOf n ls) k ≡ some Finished
 first-finished zero ls k past less = absurd (omega arith)
 first-finished (suc n) [] zero past less = refl
 first-finished (suc n) [] (suc k) past less = first-finished n [] k (omega arith) (omega arith)
@@ -72,7 +72,7 @@ first-finished (suc n) (l ∷ ls) zero past less = absurd (omega arith)
 first-finished (suc n) (l ∷ ls) (suc k) past less = first-finished n ls k (omega arith) (omega arith)
 
 -- after every landing that is due was given, each further call that is not refused answers finished
-pub then-finished : (m : Machine) (t : Throw) (exception : ℕ) → EveryLanding m t exception → (cs : List SweepCall) →
+pub then-finished : (m : Machine) (t : Throw) (exception : ℕ) → EveryLanding m t exception → (cs : List ResumeCall) →
     Admissible m (unwindingOf m t exception) cs → (k : ℕ) → length (due m t) ≤ k → k < length (answers (numbers (m .arch)) cs) →
     getElem? (answers (numbers (m .arch)) cs) k ≡ some Finished
 then-finished m t exception every cs admissible k past less =
@@ -131,7 +131,7 @@ module _
     other-throws = other-every 0 .throws ∙ sym (every-landing m i t allowed s 0 .throws)
 
     -- and so do sweep calls, as many as answer in both
-    pub other-answers : (exception exception′ : ℕ) (cs ds : List SweepCall) →
+    pub other-answers : (exception exception′ : ℕ) (cs ds : List ResumeCall) →
         Admissible (withStack m other) (unwindingOf (withStack m other) t exception) cs →
         Admissible m (unwindingOf m t exception′) ds →
         length (answers (numbers (m .arch)) cs) ≡ length (answers (numbers (m .arch)) ds) →

@@ -14,33 +14,33 @@ use Rattle.rows.specs.Row.{Found, None, Pad, cleanup, catch}
 use Rattle.model.specs.Search.{Searched, Chosen, Stopped, Ended}
 use Rattle.model.specs.Machine.{Machine}
 use Rattle.model.specs.Throw.{Throw, Standing, framesAt, rowOf}
-use Rattle.model.specs.Expected.{Landing, landingOf, outcomeBy, outcomeFrom, landingsBy, landingsFrom, outcome, due, dueBy}
-use Rattle.model.specs.Exactly.{Numbered, LandingAt, CleanupBelow, Rising, UpToCatch, Exactly}
-use Rattle.model.proofs.Sweeping.{chosen-above}
+use Rattle.model.specs.Expected.{LandingPad, padOf, outcomeBy, outcomeFrom, padsBy, padsFrom, outcome, due, dueBy}
+use Rattle.model.specs.Exactly.{Numbered, PadAt, CleanupBelow, Rising, UpToCatch, Exactly}
+use Rattle.model.proofs.Cleaning.{chosen-above}
 use Rattle.model.proofs.FirstRow.{Kind, Passes, Catches, Terminates, kind, numbered-above, on-passed, on-catch, on-terminate}
 use Rattle.model.proofs.FirstRow.{stops, ends, chooses}
 
 module _ (a : Arch) (section : Region) where
   -- numbers rise strictly along the landings
-  rising-from : (n : ℕ) (ls : List Landing) → Rising (n + 1) ls → Rising n ls
+  rising-from : (n : ℕ) (ls : List LandingPad) → Rising (n + 1) ls → Rising n ls
   rising-from n [] r = tt
   rising-from n (l ∷ ls) r = (let above = r .0 in omega arith, r .1)
 
-  rises : (n : ℕ) (ss : List Standing) → Rising n (landingsFrom a section n ss)
-  unfolding landingOf
+  rises : (n : ℕ) (ss : List Standing) → Rising n (padsFrom a section n ss)
+  unfolding padOf
   rises n [] = tt
   rises n (x ∷ ss) = go (rowOf a section x) (rises (n + 1) ss)
     where
-      rest : List Landing
-      rest = landingsFrom a section (n + 1) ss
+      rest : List LandingPad
+      rest = padsFrom a section (n + 1) ss
 
       acts : (pad : ℕ) (t u : Bool) → Rising (n + 1) rest →
-          Rising n (if t then landingOf a n x pad ∷ rest else if u then landingOf a n x pad ∷ [] else [])
+          Rising n (if t then padOf a n x pad ∷ rest else if u then padOf a n x pad ∷ [] else [])
       acts pad true u r = (omega arith, r)
       acts pad false true r = (omega arith, tt)
       acts pad false false r = tt
 
-      go : (row : Found) → Rising (n + 1) rest → Rising n (landingsBy a n x row rest)
+      go : (row : Found) → Rising (n + 1) rest → Rising n (padsBy a n x row rest)
       go None r = rising-from n rest r
       go (Pad pad action) r = acts pad (eqb action cleanup) (eqb action catch) r
 
@@ -49,25 +49,25 @@ module _ (a : Arch) (section : Region) where
     abbrev rest : Searched
     rest = outcomeFrom a section (n + 1) ss
 
-    abbrev later : List Landing
-    later = landingsFrom a section (n + 1) ss
+    abbrev later : List LandingPad
+    later = padsFrom a section (n + 1) ss
 
     -- landings of the frames after the first are landings of all
-    landing-later : (action k : ℕ) (l : Landing) → LandingAt a section (n + 1) ss action k l → LandingAt a section n (x ∷ ss) action k l
-    landing-later action k l i =
+    pad-later : (action k : ℕ) (l : LandingPad) → PadAt a section (n + 1) ss action k l → PadAt a section n (x ∷ ss) action k l
+    pad-later action k l i =
         record { frame = i .frame; pad = i .pad; numbered = inr (i .numbered); row = i .row; is = i .is }
 
-    below-later : (k : ℕ) (l : Landing) → CleanupBelow a section (n + 1) ss k l → CleanupBelow a section n (x ∷ ss) k l
+    below-later : (k : ℕ) (l : LandingPad) → CleanupBelow a section (n + 1) ss k l → CleanupBelow a section n (x ∷ ss) k l
     below-later k l i =
-        record { number = i .number; under = i .under; landing = landing-later cleanup (i .number) l (i .landing) }
+        record { number = i .number; under = i .under; landing = pad-later cleanup (i .number) l (i .landing) }
 
     -- a landing below the catch is the first frame's or a later one's
-    below-cases : (R : Type 0) (k : ℕ) (l : Landing) →
-        (n < k → (pad : ℕ) → rowOf a section x ≡ Pad pad cleanup → l ≡ landingOf a n x pad → R) →
+    below-cases : (R : Type 0) (k : ℕ) (l : LandingPad) →
+        (n < k → (pad : ℕ) → rowOf a section x ≡ Pad pad cleanup → l ≡ padOf a n x pad → R) →
         (CleanupBelow a section (n + 1) ss k l → R) → CleanupBelow a section n (x ∷ ss) k l → R
     below-cases R k l here after c = go (c .landing .numbered)
       where
-        i : LandingAt a section n (x ∷ ss) cleanup (c .number) l
+        i : PadAt a section n (x ∷ ss) cleanup (c .number) l
         i = c .landing
 
         go : Numbered n (x ∷ ss) (c .number) (i .frame) → R
@@ -75,7 +75,7 @@ module _ (a : Arch) (section : Region) where
             let number : c .number ≡ n = e .0 in
             here (subst (λ (j : ℕ). j < k) number (c .under)) (i .pad) (ap (rowOf a section) (sym (e .1)) ∙ i .row)
             (i .is
-            ∙ (ap (λ (j : ℕ). landingOf a j (i .frame) (i .pad)) number ∙ ap (λ (s : Standing). landingOf a n s (i .pad)) (e .1)))
+            ∙ (ap (λ (j : ℕ). padOf a j (i .frame) (i .pad)) number ∙ ap (λ (s : Standing). padOf a n s (i .pad)) (e .1)))
         go (inr j) =
             after
             (record {
@@ -85,7 +85,7 @@ module _ (a : Arch) (section : Region) where
             })
 
     abbrev Goal : ℕ → Type 0
-    Goal k = UpToCatch a section n (x ∷ ss) k (landingsFrom a section n (x ∷ ss))
+    Goal k = UpToCatch a section n (x ∷ ss) k (padsFrom a section n (x ∷ ss))
 
     -- by the row of the first frame: none
     up-past : (k : ℕ) → rowOf a section x ≡ None → UpToCatch a section (n + 1) ss k later → Goal k
@@ -93,7 +93,7 @@ module _ (a : Arch) (section : Region) where
         record {
           cleanups = u .cleanups;
           last = u .last;
-          split = ap (λ (r : Found). landingsBy a n x r later) row ∙ u .split;
+          split = ap (λ (r : Found). padsBy a n x r later) row ∙ u .split;
           each =
               λ l. (
                 λ i. below-later k l (u .each l .0 i),
@@ -101,7 +101,7 @@ module _ (a : Arch) (section : Region) where
                     (λ less pad e is. let clash : None ≡ Pad pad cleanup = sym row ∙ e in let z : _≡_ {A = ℕ} 0 1 = cc in absurd (omega arith))
                     (u .each l .1),
               );
-          catch = landing-later catch k (u .last) (u .catch);
+          catch = pad-later catch k (u .last) (u .catch);
           rises = rises n (x ∷ ss);
         }
 
@@ -109,28 +109,28 @@ module _ (a : Arch) (section : Region) where
     up-cleanup : (k pad : ℕ) → rowOf a section x ≡ Pad pad cleanup → n < k → UpToCatch a section (n + 1) ss k later → Goal k
     up-cleanup k pad row less u =
         record {
-          cleanups = landingOf a n x pad ∷ u .cleanups;
+          cleanups = padOf a n x pad ∷ u .cleanups;
           last = u .last;
-          split = ap (λ (r : Found). landingsBy a n x r later) row ∙ ap (λ (ls : List Landing). landingOf a n x pad ∷ ls) (u .split);
+          split = ap (λ (r : Found). padsBy a n x r later) row ∙ ap (λ (ls : List LandingPad). padOf a n x pad ∷ ls) (u .split);
           each =
               λ l. (
                 λ i.
                     ⊎-elim
-                    (λ (e : l ≡ landingOf a n x pad).
+                    (λ (e : l ≡ padOf a n x pad).
                     record {
                       number = n;
                       under = less;
                       landing = record { frame = x; pad = pad; numbered = inl (refl, refl); row = row; is = e };
                     })
                     (λ (j : List·Memᴰ l (u .cleanups)). below-later k l (u .each l .0 j)) (List·Memᴰ·cases-cons i),
-                below-cases (List·Memᴰ l (landingOf a n x pad ∷ u .cleanups)) k l
+                below-cases (List·Memᴰ l (padOf a n x pad ∷ u .cleanups)) k l
                     (λ less pad′ e is.
                     let rows : Pad pad cleanup ≡ Pad pad′ cleanup = sym row ∙ e in
                     let same : pad ≡ pad′ = cc in
                     List·Memᴰ·head (is ∙ rw same))
                     (λ c. List·Memᴰ·tail (u .each l .1 c)),
               );
-          catch = landing-later catch k (u .last) (u .catch);
+          catch = pad-later catch k (u .last) (u .catch);
           rises = rises n (x ∷ ss);
         }
 
@@ -139,8 +139,8 @@ module _ (a : Arch) (section : Region) where
     up-catch k pad row here =
         record {
           cleanups = [];
-          last = landingOf a n x pad;
-          split = ap (λ (r : Found). landingsBy a n x r later) row;
+          last = padOf a n x pad;
+          split = ap (λ (r : Found). padsBy a n x r later) row;
           each =
               λ l. (
                 λ i. absurd (List·Memᴰ·not-nil i),
@@ -174,7 +174,7 @@ module _ (a : Arch) (section : Region) where
 
   -- where a catch is chosen, the landings are exactly those up to it
   pub up-to : (n : ℕ) (ss : List Standing) (k p : ℕ) → outcomeFrom a section n ss ≡ Chosen k p →
-      UpToCatch a section n ss k (landingsFrom a section n ss)
+      UpToCatch a section n ss k (padsFrom a section n ss)
   up-to n [] k p e = let z : _≡_ {A = ℕ} 0 1 = cc in absurd (omega arith)
   up-to n (x ∷ ss) k p e = up-by n x ss k p (rowOf a section x) refl e (λ q. up-to (n + 1) ss k p q)
 
@@ -199,10 +199,10 @@ exactly m t =
     ss : List Standing
     ss = framesAt m t
 
-    ls : List Landing
-    ls = landingsFrom a section 0 ss
+    ls : List LandingPad
+    ls = padsFrom a section 0 ss
 
-    some : (ks : List Landing) (l : Landing) → ks ++ l ∷ [] ≡ [] → ⊥
+    some : (ks : List LandingPad) (l : LandingPad) → ks ++ l ∷ [] ≡ [] → ⊥
     some [] l e = let z : _≡_ {A = ℕ} 0 1 = cc in absurd (omega arith)
     some (k ∷ ks) l e = let z : _≡_ {A = ℕ} 0 1 = cc in absurd (omega arith)
 

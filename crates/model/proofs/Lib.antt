@@ -28,7 +28,7 @@ pub mod Stands
 pub mod Walks
 pub mod Searching
 pub mod Landings
-pub mod Sweeping
+pub mod Cleaning
 pub mod Calls
 pub mod FirstRow
 pub mod Exactly

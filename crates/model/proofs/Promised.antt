@@ -10,14 +10,14 @@ use Rattle.mem.specs.Opening.{opens}
 use Rattle.arch.specs.Arch.{Arch, numbers, isKnown}
 use Rattle.model.specs.declared.Unwinding.{Unwinding}
 use Rattle.model.specs.Search.{Searched}
-use Rattle.model.specs.Cleanup.{Swept}
+use Rattle.model.specs.Cleanup.{Cleaned}
 use Rattle.model.specs.Unwinding.{frame0, raise, raised, resume, resumed}
 use Rattle.model.specs.Machine.{Machine, lentBy}
 use Rattle.model.specs.Event.{steps}
 use Rattle.model.specs.Throw.{Throw, throwAllowed}
 use Rattle.model.specs.Sound.{Sound}
-use Rattle.model.specs.Expected.{Landing, Given, Landed, Finished, outcome, due, firstOf}
-use Rattle.model.specs.Demand.{sweptBy, regular, given, raisedBy, unwindingOf}
+use Rattle.model.specs.Expected.{LandingPad, Given, Installed, Finished, outcome, due, firstOf}
+use Rattle.model.specs.Demand.{answerOf, regular, given, raisedBy, unwindingOf}
 use Rattle.model.specs.Call.{after, nth, Gives, AtThrow, Promised}
 use Rattle.model.proofs.Chain.{Inv}
 use Rattle.model.proofs.Walks.{Walks}
@@ -26,7 +26,7 @@ use Rattle.model.proofs.Steps.{steps-inv}
 use Rattle.model.proofs.Theorem.{walks, throws, starts}
 
 -- answer number k stands at place k of the first answers
-nth-first : (k : ℕ) (ls : List Landing) → getD (firstOf (suc k) ls) k Finished ≡ nth k ls
+nth-first : (k : ℕ) (ls : List LandingPad) → getD (firstOf (suc k) ls) k Finished ≡ nth k ls
 nth-first zero [] = refl
 nth-first zero (l ∷ ls) = refl
 nth-first (suc k) [] = nth-first k []
@@ -34,15 +34,15 @@ nth-first (suc k) (l ∷ ls) = nth-first k ls
 
 module _ (m : Machine) (accepted : opens (lentBy m) ≡ true) (known : isKnown (m .arch) ≡ true) (w : Walks (m .arch) (m .section) (m .stack)) where
   -- a call that is served gives the first of those due
-  now-given : (u : Unwinding) (ls : List Landing) → Serves m u ls → Gives (numbers (m .arch)) (resume (lentBy m) (m .arch) u) (nth 0 ls)
-  unfolding sweptBy
+  now-given : (u : Unwinding) (ls : List LandingPad) → Serves m u ls → Gives (numbers (m .arch)) (resume (lentBy m) (m .arch) u) (nth 0 ls)
+  unfolding answerOf
   now-given u ls s = rw (s .is) (sym (ap (λ (gs : List Given). getD gs 0 Finished) (s .next 0)) ∙ nth-first 0 ls)
 
   -- and the rest is due after it
-  later-given : (n : ℕ) (u : Unwinding) (ls : List Landing) → (s : Serves m u ls) →
+  later-given : (n : ℕ) (u : Unwinding) (ls : List LandingPad) → (s : Serves m u ls) →
       Gives (numbers (m .arch)) (resume (lentBy m) (m .arch) (after n (lentBy m) (m .arch) (resumed u (Answer (s .answer))))) (nth n (s .rest)) →
       Gives (numbers (m .arch)) (resume (lentBy m) (m .arch) (after (suc n) (lentBy m) (m .arch) u)) (nth (suc n) ls)
-  unfolding sweptBy
+  unfolding answerOf
   later-given n u ls s g =
       let same : nth n (s .rest) ≡ nth (suc n) ls =
       sym (nth-first n (s .rest)) ∙
@@ -53,7 +53,7 @@ module _ (m : Machine) (accepted : opens (lentBy m) ≡ true) (known : isKnown (
       same g)
 
   -- call number n
-  gives : (n : ℕ) (u : Unwinding) (ls : List Landing) → Due m u ls →
+  gives : (n : ℕ) (u : Unwinding) (ls : List LandingPad) → Due m u ls →
       Gives (numbers (m .arch)) (resume (lentBy m) (m .arch) (after n (lentBy m) (m .arch) u)) (nth n ls)
   gives zero u ls d = now-given u ls (serves m accepted known w u ls d)
   gives (suc n) u ls d =

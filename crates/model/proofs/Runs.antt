@@ -21,8 +21,8 @@ use Rattle.model.specs.Machine.{Machine, Fresh, memory, lentBy}
 use Rattle.model.specs.Event.{steps}
 use Rattle.model.specs.Throw.{Throw, throwAllowed, framesAt}
 use Rattle.model.specs.Sound.{Sound, goodFrames}
-use Rattle.model.specs.Expected.{Landing, Given, outcome, due, firstOf}
-use Rattle.model.specs.Demand.{SweepCall, sweptBy, regular, currentBy, current, Admissible, unlessRefused, answers, raisedBy, unwindingOf}
+use Rattle.model.specs.Expected.{LandingPad, Given, outcome, due, firstOf}
+use Rattle.model.specs.Demand.{ResumeCall, answerOf, regular, currentBy, current, Admissible, unlessRefused, answers, raisedBy, unwindingOf}
 use Rattle.model.proofs.Rules.{Told, events}
 
 -- a story: a machine, the events from there on, a throw or interrupt, its answer, and the landings after it
@@ -31,7 +31,7 @@ pub record Story : Type 0 where
   pub told : List Told
   pub throw : Throw
   pub answer : Searched
-  pub landings : List Landing
+  pub landings : List LandingPad
 
 -- the throw at a pc, and the interrupt
 abbrev pub throwAt : ℕ → Throw
@@ -41,7 +41,7 @@ abbrev pub interruptAt : ℕ → Throw
 interruptAt pc = record { pc = pc; interrupted = true }
 
 -- a landing by its frame's number, sp, pc and preserved registers
-abbrev pub landing : ℕ → ℕ → ℕ → List ℕ → Landing
+abbrev pub landing : ℕ → ℕ → ℕ → List ℕ → LandingPad
 landing number sp pc preserved = record { number = number; sp = sp; pc = pc; preserved = preserved }
 
 -- the machine that the throw finds
@@ -49,13 +49,13 @@ abbrev pub reached : Story → Machine
 reached s = steps (s .machine) (events (s .told))
 
 -- n regular sweep calls, each with the unwinding that the one before it returned
-abbrev pub regulars : ℕ → Machine → Unwinding → List SweepCall
+abbrev pub regulars : ℕ → Machine → Unwinding → List ResumeCall
 regulars zero m u = []
 regulars (suc n) m u = regular m u ∷ regulars n m (current u (regular m u))
 
 -- what so many of them give after a story, for an exception
-abbrev pub sweptAfter : Story → ℕ → ℕ → List Given
-sweptAfter s exception n =
+abbrev pub answersAfter : Story → ℕ → ℕ → List Given
+answersAfter s exception n =
     answers (numbers (s .machine .arch)) (regulars n (reached s) (unwindingOf (reached s) (s .throw) exception))
 
 -- one more call than there are landings, and yet another
@@ -73,7 +73,7 @@ pub record Holds (s : Story) : Type 0 where
   pub lands : due (reached s) (s .throw) ≡ s .landings
   -- and `raise` and `resume` give them
   pub raises : raisedBy (reached s) (s .throw) ≡ Answer (s .answer)
-  pub sweeps : (exception : ℕ) → sweptAfter s exception (callsFor s) ≡ firstOf (callsFor s) (s .landings)
+  pub cleans : (exception : ℕ) → answersAfter s exception (callsFor s) ≡ firstOf (callsFor s) (s .landings)
 
 -- regular sweep calls are a list that demand 3 speaks of
 pub regulars-admissible : (n : ℕ) (m : Machine) (u : Unwinding) → Admissible m u (regulars n m u)
@@ -116,12 +116,12 @@ fresh-tested m empty wide values accepted bytes known =
 -- what n regular sweep calls give, each computed once
 abbrev pub given : Arch → ℕ → Machine → Unwinding → List Given
 given a zero m u = []
-given a (suc n) m u = let o = sweptBy (regular m u) in unlessRefused a o (given a n m (currentBy u u o))
+given a (suc n) m u = let o = answerOf (regular m u) in unlessRefused a o (given a n m (currentBy u u o))
 
 given-answers : (a : Arch) (n : ℕ) (m : Machine) (u : Unwinding) → answers a (regulars n m u) ≡ given a n m u
 unfolding current
 given-answers a zero m u = refl
-given-answers a (suc n) m u = ap (unlessRefused a (sweptBy (regular m u))) (given-answers a n m (current u (regular m u)))
+given-answers a (suc n) m u = ap (unlessRefused a (answerOf (regular m u))) (given-answers a n m (current u (regular m u)))
 
 -- all that computing shows of a machine and a throw, if the throw answers so and n sweep calls follow
 pub record Report : Type 0 where
@@ -130,9 +130,9 @@ pub record Report : Type 0 where
   pub allowed : Bool
   pub frames : Bool
   pub answered : Searched
-  pub lands : List Landing
+  pub lands : List LandingPad
   pub raises : Outcome Searched
-  pub sweeps : List Given
+  pub cleans : List Given
 
 abbrev pub reportOf : Machine → Throw → Searched → ℕ → ℕ → Report
 reportOf m t answer n exception =
@@ -144,7 +144,7 @@ reportOf m t answer n exception =
       answered = outcome m t;
       lands = due m t;
       raises = raisedBy m t;
-      sweeps = given (numbers (m .arch)) n m (raised (frame0 (m .registers) (t .pc) (t .interrupted)) exception (Answer answer));
+      cleans = given (numbers (m .arch)) n m (raised (frame0 (m .registers) (t .pc) (t .interrupted)) exception (Answer answer));
     }
 
 -- the report of a story, and what it should be
@@ -161,7 +161,7 @@ expected s =
       answered = s .answer;
       lands = s .landings;
       raises = Answer (s .answer);
-      sweeps = firstOf (callsFor s) (s .landings);
+      cleans = firstOf (callsFor s) (s .landings);
     }
 
 -- a story from a fresh machine with sound tables, whose report is as expected, holds
@@ -183,15 +183,15 @@ holds-reported s fresh tables e =
       answered = ap (λ (r : Report). r .answered) (e 0);
       lands = ap (λ (r : Report). r .lands) (e 0);
       raises = ap (λ (r : Report). r .raises) (e 0);
-      sweeps = λ exception. rw (ap (λ (r : Report). r .raises) (e 0)) (swept exception);
+      cleans = λ exception. rw (ap (λ (r : Report). r .raises) (e 0)) (cleaned exception);
     }
   where
     begun : ℕ → Unwinding
     begun exception = raised (frame0 (reached s .registers) (s .throw .pc) (s .throw .interrupted)) exception (Answer (s .answer))
 
-    swept : (exception : ℕ) →
+    cleaned : (exception : ℕ) →
         answers (numbers (s .machine .arch)) (regulars (callsFor s) (reached s) (begun exception)) ≡ firstOf (callsFor s) (s .landings)
-    swept exception =
+    cleaned exception =
         ap (λ (x : ℕ). answers (numbers x) (regulars (callsFor s) (reached s) (begun exception))) (sym (ap (λ (r : Report). r .arch) (e 0)))
         ∙ given-answers (numbers (reached s .arch)) (callsFor s) (reached s) (begun exception)
-        ∙ ap (λ (r : Report). r .sweeps) (e exception)
+        ∙ ap (λ (r : Report). r .cleans) (e exception)

@@ -6,7 +6,7 @@ use Rattle.model.specs.Search.{Searched, Chosen, Stopped, Ended}
 use Rattle.model.specs.Machine.{Machine}
 use Rattle.model.specs.Event.{Call, Spill, Change, Reload, Move, Write}
 use Rattle.model.specs.Throw.{Throw}
-use Rattle.model.specs.Expected.{Landing}
+use Rattle.model.specs.Expected.{LandingPad}
 use Rattle.model.proofs.Rules.{Told, does, against}
 use Rattle.model.proofs.Runs.{Story, throwAt, interruptAt, landing}
 
@@ -129,7 +129,7 @@ story caller old =
     []
 
 -- the cleanups of `framed`, which has this number, and of `old`, then the catch of the second `outer`
-abbrev pub landings : ℕ → List Landing
+abbrev pub landings : ℕ → List LandingPad
 landings number =
     landing number 0x8050 0x4070 (
     219 ∷ 120 ∷ 121 ∷ 1022 ∷ 1023 ∷ 1024 ∷ 1025 ∷ 1026 ∷ 1027 ∷ 1028 ∷
@@ -142,7 +142,7 @@ landings number =
     1029 ∷ 0x4010 ∷ 1072 ∷ 1073 ∷ 1074 ∷ 1075 ∷ 1076 ∷ 1077 ∷ 1078 ∷ 1079 ∷ []) ∷ []
 
 -- what comes of it
-abbrev pub ends : List Told → Throw → Searched → List Landing → Story
+abbrev pub ends : List Told → Throw → Searched → List LandingPad → Story
 ends told throw answer landings = record { machine = start; told = told; throw = throw; answer = answer; landings = landings }
 
 -- `plain` throws. It has no table and is passed over; `framed` and `old` clean up, and the second `outer` catches. The cleanup of the

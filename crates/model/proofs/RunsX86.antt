@@ -6,7 +6,7 @@ use Rattle.model.specs.Search.{Searched, Chosen, Stopped, Ended}
 use Rattle.model.specs.Machine.{Machine}
 use Rattle.model.specs.Event.{Call, Spill, Change, Reload, Move, Write}
 use Rattle.model.specs.Throw.{Throw}
-use Rattle.model.specs.Expected.{Landing}
+use Rattle.model.specs.Expected.{LandingPad}
 use Rattle.model.proofs.Rules.{Told, does, against}
 use Rattle.model.proofs.Runs.{Story, throwAt, interruptAt, landing}
 
@@ -125,14 +125,14 @@ story caller old =
     []
 
 -- the cleanups of `framed`, which has this number, and of `old`, then the catch of the second `outer`
-abbrev pub landings : ℕ → List Landing
+abbrev pub landings : ℕ → List LandingPad
 landings number =
     landing number 0x8050 0x4070 (203 ∷ 0x8060 ∷ 112 ∷ 113 ∷ 114 ∷ 1015 ∷ []) ∷
     landing (number + 1) 0x8070 0x4124 (203 ∷ 0x8090 ∷ 112 ∷ 1013 ∷ 114 ∷ 1015 ∷ []) ∷
     landing (number + 2) 0x80a0 0x4030 (203 ∷ 1006 ∷ 1012 ∷ 1013 ∷ 1014 ∷ 1015 ∷ []) ∷ []
 
 -- what comes of it
-abbrev pub ends : List Told → Throw → Searched → List Landing → Story
+abbrev pub ends : List Told → Throw → Searched → List LandingPad → Story
 ends told throw answer landings = record { machine = start; told = told; throw = throw; answer = answer; landings = landings }
 
 -- `plain` throws. It has no table and is passed over; `framed` and `old` clean up, and the second `outer` catches. The cleanup of the

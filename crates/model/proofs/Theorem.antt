@@ -22,7 +22,7 @@ use Rattle.model.specs.Described.{described}
 use Rattle.model.specs.Event.{Event, steps}
 use Rattle.model.specs.Throw.{Throw, lookedAt, thrown, throwable, throwAllowed, framesAt}
 use Rattle.model.specs.Sound.{Sound}
-use Rattle.model.specs.Expected.{outcome, due, dueBy, landingsFrom}
+use Rattle.model.specs.Expected.{outcome, due, dueBy, padsFrom}
 use Rattle.model.specs.Demand.{raisedBy, unwindingOf, EveryLanding, Demand3}
 use Rattle.model.proofs.Chain.{Inner, FrameAt, Chain, Inv, Agrees}
 use Rattle.model.proofs.Guard.{each}
@@ -33,7 +33,7 @@ use Rattle.model.proofs.Rows.{row-found}
 use Rattle.model.proofs.Stands.{goes, ends}
 use Rattle.model.proofs.Walks.{Walks}
 use Rattle.model.proofs.Searching.{searches}
-use Rattle.model.proofs.Sweeping.{Amid}
+use Rattle.model.proofs.Cleaning.{Amid}
 use Rattle.model.proofs.Steps.{steps-inv}
 use Rattle.model.proofs.Calls.{opened-known, Due, None, Some, calls}
 
@@ -118,7 +118,7 @@ module _ (m : Machine) (i : Inv m) where
       where
         go : (o : Searched) → outcome m t ≡ o →
             Due m (raised (frame0 (m .registers) (t .pc) (t .interrupted)) exception (Answer o))
-            (dueBy o (landingsFrom (numbers (m .arch)) (m .section) 0 (framesAt m t)))
+            (dueBy o (padsFrom (numbers (m .arch)) (m .section) 0 (framesAt m t)))
         go (Chosen k p) e =
             Some refl
             (Amid true (thrown m t) (m .frames)

@@ -8,13 +8,13 @@ use Rattle.mem.specs.Memory.{Lent}
 use Rattle.arch.specs.Arch.{Arch, numbers}
 use Rattle.model.specs.declared.Unwinding.{Unwinding}
 use Rattle.model.specs.Search.{Searched}
-use Rattle.model.specs.Cleanup.{Swept}
+use Rattle.model.specs.Cleanup.{Cleaned}
 use Rattle.model.specs.Unwinding.{resume, resumed}
 use Rattle.model.specs.Machine.{Machine, Fresh, lentBy}
 use Rattle.model.specs.Event.{Event, steps}
 use Rattle.model.specs.Throw.{Throw, throwAllowed}
 use Rattle.model.specs.Sound.{Sound}
-use Rattle.model.specs.Expected.{Landing, Given, Landed, Finished, outcome, due}
+use Rattle.model.specs.Expected.{LandingPad, Given, Installed, Finished, outcome, due}
 use Rattle.model.specs.Demand.{given}
 
 -- the unwinding after n calls, each with what the one before it handed back
@@ -23,13 +23,13 @@ after zero l arch u = u
 after (suc n) l arch u = after n l arch (resumed u (resume l arch u))
 
 -- answer number n, counted from 0: the landings, then finished
-abbrev pub nth : ℕ → List Landing → Given
+abbrev pub nth : ℕ → List LandingPad → Given
 nth n [] = Finished
-nth zero (l ∷ ls) = Landed l
+nth zero (l ∷ ls) = Installed l
 nth (suc n) (l ∷ ls) = nth n ls
 
 -- a call that is not refused gives this
-abbrev pub Gives : Arch → Outcome Swept → Given → Type 0
+abbrev pub Gives : Arch → Outcome Cleaned → Given → Type 0
 Gives a (Refused n) g = ⊥
 Gives a (Answer x) g = given a x ≡ g
 
@@ -48,8 +48,8 @@ pub record AtThrow (l : Lent) (arch : ℕ) (file : List ℕ) (pc : ℕ) (interru
   pub isInterrupted : interrupted ≡ throw .interrupted
 
 -- demand 3: then the throw answers the machine's outcome, and sweep call number n gives number n of the landings due, or finished
-abbrev pub Promised : Lent → ℕ → List ℕ → ℕ → Bool → ℕ → Outcome Searched → Outcome Swept → Type 0
-Promised l arch file pc interrupted n raised swept =
+abbrev pub Promised : Lent → ℕ → List ℕ → ℕ → Bool → ℕ → Outcome Searched → Outcome Cleaned → Type 0
+Promised l arch file pc interrupted n raised cleaned =
     (a : AtThrow l arch file pc interrupted) →
     (raised ≡ Answer (outcome (steps (a .machine) (a .events)) (a .throw)))
-    × Gives (numbers arch) swept (nth n (due (steps (a .machine) (a .events)) (a .throw)))
+    × Gives (numbers arch) cleaned (nth n (due (steps (a .machine) (a .events)) (a .throw)))

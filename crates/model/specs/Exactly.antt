@@ -12,7 +12,7 @@ use Rattle.rows.specs.Row.{Found, None, Pad, cleanup}
 use Rattle.model.specs.Search.{Chosen, Stopped, Ended}
 use Rattle.model.specs.Machine.{Machine}
 use Rattle.model.specs.Throw.{Throw, Standing, framesAt, rowOf}
-use Rattle.model.specs.Expected.{Landing, landingOf, outcome, due}
+use Rattle.model.specs.Expected.{LandingPad, padOf, outcome, due}
 
 -- a row that a search passes over: none, or cleanup
 abbrev pub Passed : Found → Type 0
@@ -55,31 +55,31 @@ module _ (a : Arch) (section : Region) (n : ℕ) (ss : List Standing) where
     pub isSp : File.sp a (first .frame .file) ≡ sp
 
   -- a landing is that of frame number k, whose row has this action
-  pub record LandingAt (action k : ℕ) (l : Landing) : Type 0 where
+  pub record PadAt (action k : ℕ) (l : LandingPad) : Type 0 where
     pub frame : Standing
     pub pad : ℕ
     pub numbered : Numbered n ss k frame
     pub row : rowOf a section frame ≡ Pad pad action
-    pub is : l ≡ landingOf a k frame pad
+    pub is : l ≡ padOf a k frame pad
 
   -- a landing is that of a frame with a cleanup row, its number below k
-  pub record CleanupBelow (k : ℕ) (l : Landing) : Type 0 where
+  pub record CleanupBelow (k : ℕ) (l : LandingPad) : Type 0 where
     pub number : ℕ
     pub under : number < k
-    pub landing : LandingAt cleanup number l
+    pub landing : PadAt cleanup number l
 
 -- numbers rise strictly, from k on
-abbrev pub Rising : ℕ → List Landing → Type 0
+abbrev pub Rising : ℕ → List LandingPad → Type 0
 Rising k [] = Unit
 Rising k (l ∷ ls) = (k ≤ l .number) × Rising (l .number + 1) ls
 
 -- exactly the landings of the frames with a cleanup row below number k, innermost first, then that of the catch of frame number k
-pub record UpToCatch (a : Arch) (section : Region) (n : ℕ) (ss : List Standing) (k : ℕ) (ls : List Landing) : Type 0 where
-  pub cleanups : List Landing
-  pub last : Landing
+pub record UpToCatch (a : Arch) (section : Region) (n : ℕ) (ss : List Standing) (k : ℕ) (ls : List LandingPad) : Type 0 where
+  pub cleanups : List LandingPad
+  pub last : LandingPad
   pub split : ls ≡ cleanups ++ last ∷ []
-  pub each : (l : Landing) → List·Memᴰ l cleanups ↔ CleanupBelow a section n ss k l
-  pub catch : LandingAt a section n ss Row.catch k last
+  pub each : (l : LandingPad) → List·Memᴰ l cleanups ↔ CleanupBelow a section n ss k l
+  pub catch : PadAt a section n ss Row.catch k last
   pub rises : Rising n ls
 
 -- exactly: 3 where the first row that is catch or terminate is terminate; 5 where there is neither; otherwise that catch is chosen.

@@ -12,7 +12,7 @@ use Rattle.arch.specs.File.{setPc}
 use Rattle.model.specs.declared.Unwinding.{Unwinding}
 use Rattle.model.specs.FrameStep.{Frame, Step, frameStep}
 use Rattle.model.specs.Search.{Searched, Chosen, Stopped, Ended, search}
-use Rattle.model.specs.Cleanup.{Choice, Swept, Landing, Fatal, Finished, sweep}
+use Rattle.model.specs.Cleanup.{Choice, Cleaned, Install, Fatal, Finished, clean}
 
 -- 28 first: for what is lent, then for an architecture other than 1 and 2
 unfoldable pub opened : {A : Type 0} → Lent → ℕ → Outcome A → Outcome A
@@ -70,9 +70,9 @@ abbrev pub choiceOf : Unwinding → Choice
 choiceOf u = record { number = u .«chosen_number»; sp = u .«chosen_sp» }
 
 -- `resume`: finished where nothing is chosen or the chosen frame has landed, else the next landing
-unfoldable pub resume : Lent → ℕ → Unwinding → Outcome Swept
+unfoldable pub resume : Lent → ℕ → Unwinding → Outcome Cleaned
 resume l arch u =
-    opened l arch (if u .chosen then sweep arch (l .regions) (u .exception) (choiceOf u) (frameOf u) else Answer Finished)
+    opened l arch (if u .chosen then clean arch (l .regions) (u .exception) (choiceOf u) (frameOf u) else Answer Finished)
 
 -- an unwinding that goes on from a frame
 abbrev pub goingOn : Unwinding → Frame → Unwinding
@@ -88,8 +88,8 @@ goingOn u f =
     }
 
 -- the unwinding that `resume` hands back: past the frame that landed; otherwise the one that came in
-abbrev pub resumed : Unwinding → Outcome Swept → Unwinding
+abbrev pub resumed : Unwinding → Outcome Cleaned → Unwinding
 resumed u (Refused n) = u
-resumed u (Answer (Landing number file next)) = goingOn u next
+resumed u (Answer (Install number file next)) = goingOn u next
 resumed u (Answer Fatal) = u
 resumed u (Answer Finished) = u

@@ -18,11 +18,11 @@ use Rattle.personality.specs.Answers.{decided}
 use Rattle.personality.specs.declared.Code.the-variants as code
 use Rattle.personality.specs.declared.Decided.{Decided}
 use Rattle.model.specs.declared.Unwinding.{Unwinding}
-use Rattle.model.specs.Cleanup.{land}
-use Rattle.unwind.specs.Turns.{Lands, Below, AtChosen, ByRow, SweepTurn}
+use Rattle.model.specs.Cleanup.{installPad}
+use Rattle.unwind.specs.Turns.{Lands, Below, AtChosen, ByRow, CleanTurn}
 use Rattle.unwind.specs.declared.Walked.{Walked}
 use Rattle.unwind.specs.declared.Walked.the-variants as walked
-use Rattle.unwind.specs.declared.Sweeping.the-variants.{On, Landing, Fatal, Refused}
+use Rattle.unwind.specs.declared.Cleaning.the-variants.{On, Install, Fatal, Refused}
 use Rattle.unwind.specs.declared.Met.{Met}
 
 -- what a reason that was decided says of the outcome
@@ -51,13 +51,13 @@ decided-refused regs (Answer x) d n e p =
 module _ (a : Arch) (u : Unwinding) (r : Record) (pad : ℕ) (d : Decided)
     (e : d ≡ decided (u .regs) (installed a (u .exception) (r .start) pad (u .regs .r))) where
   -- the frame lands
-  pub lands : (n : ℕ) → d .code ≡ code.Reason n → Lands a u r pad (record { turn = Landing; regs = d .regs })
-  unfolding land
+  pub lands : (n : ℕ) → d .code ≡ code.Reason n → Lands a u r pad (record { turn = Install; regs = d .regs })
+  unfolding installPad
   lands n p next rest = rw (decided-reason (u .regs) (installed a (u .exception) (r .start) pad (u .regs .r)) d n e p)
 
   -- or the landing is refused
   pub lands-refused : (n : ℕ) → d .code ≡ code.Refused n → (w : Met) → w .turn ≡ Refused n → Lands a u r pad w
-  unfolding land
+  unfolding installPad
   lands-refused n p w q next rest =
       rw (decided-refused (u .regs) (installed a (u .exception) (r .start) pad (u .regs .r)) d n e p, q)
 
@@ -111,14 +111,14 @@ module _ (a : Arch) (u : Unwinding) (r : Record) (x : Row) (w : Met) where
 
 module _ (arch : ℕ) (m : Memory) (u : Unwinding) (answer : Walked) (w : Met) where
   -- an end before the chosen frame is 22
-  pub sweep-ended : answer ≡ walked.End → w .turn ≡ Refused 22 → SweepTurn arch m u answer w
-  sweep-ended e q next rest = rw (e, q)
+  pub clean-ended : answer ≡ walked.End → w .turn ≡ Refused 22 → CleanTurn arch m u answer w
+  clean-ended e q next rest = rw (e, q)
 
   -- the step is refused
-  pub sweep-refused : (n : ℕ) → answer ≡ walked.Refused n → w .turn ≡ Refused n → SweepTurn arch m u answer w
-  sweep-refused n e q next rest = rw (e, q)
+  pub clean-refused : (n : ℕ) → answer ≡ walked.Refused n → w .turn ≡ Refused n → CleanTurn arch m u answer w
+  clean-refused n e q next rest = rw (e, q)
 
   -- past the frame its row decides
-  pub sweep-row : (r : Record) → answer ≡ walked.Past r → (p : ℕ) → p ≡ pc (u .regs .r) → (x : Row) →
-      found x ≡ rowOf (numbers arch) m (u .interrupted) r p → ByRow (numbers arch) u r (found x) w → SweepTurn arch m u answer w
-  sweep-row r e p v x q b next rest = rw (e, sym v, sym q) (b next (rest next))
+  pub clean-row : (r : Record) → answer ≡ walked.Past r → (p : ℕ) → p ≡ pc (u .regs .r) → (x : Row) →
+      found x ≡ rowOf (numbers arch) m (u .interrupted) r p → ByRow (numbers arch) u r (found x) w → CleanTurn arch m u answer w
+  clean-row r e p v x q b next rest = rw (e, sym v, sym q) (b next (rest next))

@@ -5,6 +5,6 @@ pub mod Stepping
 pub mod Searching
 pub mod Throwing
 pub mod Landing
-pub mod Cleaning
+pub mod CleanupPhase
 pub mod Calls
 pub mod Told

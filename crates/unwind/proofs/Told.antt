@@ -8,13 +8,13 @@ use Rattle.mem.specs.Memory.{Lent}
 use Rattle.arch.specs.Arch.{Arch, numbers}
 use Rattle.model.specs.declared.Unwinding.{Unwinding}
 use Rattle.model.specs.Search.{Searched, Chosen, Stopped, Ended}
-use Rattle.model.specs.Cleanup.{Swept, Landing, Fatal, Finished}
+use Rattle.model.specs.Cleanup.{Cleaned, Install, Fatal, Finished}
 use Rattle.model.specs.Unwinding.{frame0, raise, raised, resume}
 use Rattle.model.specs.Event.{steps}
 use Rattle.model.specs.Expected.{Given, due}
 use Rattle.model.specs.Call.{after, nth, Gives, AtThrow, Promised}
 use Rattle.model.proofs.Promised.{promised}
-use Rattle.unwind.specs.Answers.{searched, raiseOf, raisedBy, resumedBy, swept, callNumber, unwoundBy}
+use Rattle.unwind.specs.Answers.{searched, raiseOf, raisedBy, resumedBy, cleaned, callNumber, unwoundBy}
 use Rattle.unwind.specs.declared.Raised.{Raised}
 use Rattle.unwind.specs.declared.Resumed.{Resumed}
 use Rattle.unwind.specs.declared.Unwound.{Unwound}
@@ -27,9 +27,9 @@ told-search (Answer Stopped) = refl
 told-search (Answer Ended) = refl
 
 -- so does a call's, as it is compared
-told-call : (a : Arch) (u : Unwinding) (o : Outcome Swept) (g : Given) → Gives a o g → Gives a (swept (resumedBy u o)) g
+told-call : (a : Arch) (u : Unwinding) (o : Outcome Cleaned) (g : Given) → Gives a o g → Gives a (cleaned (resumedBy u o)) g
 told-call a u (Refused n) g e = e
-told-call a u (Answer (Landing number file next)) g e = e
+told-call a u (Answer (Install number file next)) g e = e
 told-call a u (Answer Fatal) g e = e
 told-call a u (Answer Finished) g e = e
 
@@ -43,7 +43,7 @@ together n l arch file pc interrupted exception x p y q = rw (q, p)
 -- demand 3, of what is handed back
 pub unwound : (n : ℕ) (l : Lent) (arch : ℕ) (file : List ℕ) (pc : ℕ) (interrupted : Bool) (exception : ℕ) (r : Unwound) →
     r ≡ unwoundBy n l arch file pc interrupted exception →
-    Promised l arch file pc interrupted n (searched (r .raised)) (swept (r .resumed))
+    Promised l arch file pc interrupted n (searched (r .raised)) (cleaned (r .resumed))
 unwound n l arch file pc interrupted exception r is a =
     let p = promised l arch file pc interrupted exception n a in
     let u = after n l arch (raised (frame0 file pc interrupted) exception (raise l arch file pc interrupted)) in

@@ -11,7 +11,7 @@ use Rattle.model.specs.FrameStep.{Frame, Step}
 use Rattle.model.specs.Search as Search
 use Rattle.model.specs.Search.{Searched}
 use Rattle.model.specs.Cleanup as Cleanup
-use Rattle.model.specs.Cleanup.{Swept}
+use Rattle.model.specs.Cleanup.{Cleaned}
 use Rattle.model.specs.Unwinding as Unwinding
 use Rattle.model.specs.Unwinding.{frame0, raised, resumed}
 use Rattle.model.specs.Call.{after}
@@ -62,21 +62,21 @@ abbrev pub raisedBy : Frame → ℕ → Outcome Searched → Raised
 raisedBy f exception o = record { answer = raiseOf o; unwinding = raised f exception o }
 
 -- what a sweep call comes to
-abbrev pub resumeOf : Outcome Swept → ResumeAnswer
+abbrev pub resumeOf : Outcome Cleaned → ResumeAnswer
 resumeOf (Outcome.Refused n) = resume.Refused n
-resumeOf (Answer (Cleanup.Landing number file next)) = resume.Landing number
+resumeOf (Answer (Cleanup.Install number file next)) = resume.Install number
 resumeOf (Answer Cleanup.Fatal) = resume.Fatal
 resumeOf (Answer Cleanup.Finished) = resume.Finished
 
 -- the file at the landing's pad; otherwise the one that came in
-abbrev pub fileOf : List ℕ → Outcome Swept → List ℕ
+abbrev pub fileOf : List ℕ → Outcome Cleaned → List ℕ
 fileOf old (Outcome.Refused n) = old
-fileOf old (Answer (Cleanup.Landing number file next)) = file
+fileOf old (Answer (Cleanup.Install number file next)) = file
 fileOf old (Answer Cleanup.Fatal) = old
 fileOf old (Answer Cleanup.Finished) = old
 
 -- a sweep call of an unwinding, with the unwinding that it hands back
-abbrev pub resumedBy : Unwinding → Outcome Swept → Resumed
+abbrev pub resumedBy : Unwinding → Outcome Cleaned → Resumed
 resumedBy u o = record { answer = resumeOf o; regs = record { r = fileOf (u .regs .r) o }; unwinding = resumed u o }
 
 -- an answer beside the unwinding that came in
@@ -84,14 +84,14 @@ abbrev pub unmoved : ResumeAnswer → Unwinding → Resumed
 unmoved answer u = record { answer = answer; regs = u .regs; unwinding = u }
 
 -- the outcome that an answer tells of: for a landing with the file at the pad, and the frame that the unwinding goes on from
-abbrev pub sweptAs : ResumeAnswer → List ℕ → Frame → Outcome Swept
-sweptAs (resume.Landing number) file next = Answer (Cleanup.Landing number file next)
-sweptAs resume.Fatal file next = Answer Cleanup.Fatal
-sweptAs resume.Finished file next = Answer Cleanup.Finished
-sweptAs (resume.Refused n) file next = Outcome.Refused n
+abbrev pub cleanedAs : ResumeAnswer → List ℕ → Frame → Outcome Cleaned
+cleanedAs (resume.Install number) file next = Answer (Cleanup.Install number file next)
+cleanedAs resume.Fatal file next = Answer Cleanup.Fatal
+cleanedAs resume.Finished file next = Answer Cleanup.Finished
+cleanedAs (resume.Refused n) file next = Outcome.Refused n
 
-abbrev pub swept : Resumed → Outcome Swept
-swept r = sweptAs (r .answer) (r .regs .r) (Unwinding.frameOf (r .unwinding))
+abbrev pub cleaned : Resumed → Outcome Cleaned
+cleaned r = cleanedAs (r .answer) (r .regs .r) (Unwinding.frameOf (r .unwinding))
 
 -- call number n of resume, counted from 0
 abbrev pub callNumber : ℕ → Lent → ℕ → Unwinding → Resumed

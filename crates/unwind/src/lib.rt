@@ -16,8 +16,8 @@ ghost use Rattle.model.specs.Search as Search;
 ghost use Rattle.model.specs.Cleanup as Cleanup;
 ghost use Rattle.model.specs.Unwinding as Spec;
 ghost use Rattle.model.specs.Call.{Promised};
-ghost use Rattle.unwind.specs.Answers.{frameAt, stepped, searched, raisedBy, unmoved, resumedBy, swept, callNumber, unwoundBy};
-ghost use Rattle.unwind.specs.Turns.{Follows, SearchTurn, Searches, Lands, Below, AtChosen, ByRow, SweepTurn, Sweeps};
+ghost use Rattle.unwind.specs.Answers.{frameAt, stepped, searched, raisedBy, unmoved, resumedBy, cleaned, callNumber, unwoundBy};
+ghost use Rattle.unwind.specs.Turns.{Follows, SearchTurn, Searches, Lands, Below, AtChosen, ByRow, CleanTurn, Cleans};
 use arch::Next;
 use arch::Regs;
 use arch::is_known;
@@ -79,7 +79,7 @@ pub struct Raised {
 
 // What a sweep call comes to: the landing of the frame with this number, 2, finished, or a refusal.
 pub enum ResumeAnswer {
-    Landing(usize),
+    Install(usize),
     Fatal,
     Finished,
     Refused(u32),
@@ -111,21 +111,21 @@ struct Looked {
 }
 
 // A turn of the sweep: it goes on with the next frame, or stops.
-enum Sweeping {
+enum Cleaning {
     On,
-    Landing,
+    Install,
     Fatal,
     Refused(u32),
 }
 
 // A turn of the sweep, and for a landing the file at the pad, else the frame's.
 struct Met {
-    turn: Sweeping,
+    turn: Cleaning,
     regs: Regs,
 }
 
 // The same with the frame's step.
-struct Swept {
+struct Cleaned {
     met: Met,
     next: Stepped,
 }
@@ -609,7 +609,7 @@ pub fn raise<'a>(
 // The cleanup phase.
 
 // A turn that does not land beside the frame's own file.
-fn no_landing(turn: Sweeping, unwinding: Unwinding) -> Met
+fn no_pad(turn: Cleaning, unwinding: Unwinding) -> Met
     ensures { λ r. ⌜ (r .turn ≡ turn) × (r .regs ≡ unwinding .regs) ⌝ }
 {
     let regs = unwinding.regs;
@@ -617,7 +617,7 @@ fn no_landing(turn: Sweeping, unwinding: Unwinding) -> Met
 }
 
 // The landing of a frame.
-fn land(arch: u8, unwinding: Unwinding, record: Record, pad: usize) -> Met
+fn install(arch: u8, unwinding: Unwinding, record: Record, pad: usize) -> Met
     ensures { λ r. ⌜ Lands (numbers arch) unwinding «record» pad r ⌝ }
 {
     let file = unwinding.regs;
@@ -626,10 +626,10 @@ fn land(arch: u8, unwinding: Unwinding, record: Record, pad: usize) -> Met
     let code = landed.code;
     match code {
         Code::Reason(_) => Met {
-            turn: Sweeping::Landing,
+            turn: Cleaning::Install,
             regs,
         },
-        Code::Refused(n) => no_landing(Sweeping::Refused(n), unwinding),
+        Code::Refused(n) => no_pad(Cleaning::Refused(n), unwinding),
     }
 }
 
@@ -638,12 +638,12 @@ fn below(arch: u8, unwinding: Unwinding, record: Record, pad: usize, action: usi
     ensures { λ r. ⌜ Below (numbers arch) unwinding «record» pad action r ⌝ }
 {
     if action == ACTION_CLEANUP {
-        return land(arch, unwinding, record, pad);
+        return install(arch, unwinding, record, pad);
     }
     if action == ACTION_CATCH {
-        return no_landing(Sweeping::Refused(HANDLER_FRAME_MISSED), unwinding);
+        return no_pad(Cleaning::Refused(HANDLER_FRAME_MISSED), unwinding);
     }
-    no_landing(Sweeping::Fatal, unwinding)
+    no_pad(Cleaning::Fatal, unwinding)
 }
 
 // A row at the chosen number: a catch lands if sp is the chosen one; all else is 22.
@@ -651,13 +651,13 @@ fn at_chosen(arch: u8, unwinding: Unwinding, record: Record, pad: usize, action:
     ensures { λ r. ⌜ AtChosen (numbers arch) unwinding «record» pad action r ⌝ }
 {
     if action != ACTION_CATCH {
-        return no_landing(Sweeping::Refused(HANDLER_FRAME_MISSED), unwinding);
+        return no_pad(Cleaning::Refused(HANDLER_FRAME_MISSED), unwinding);
     }
     let regs = unwinding.regs;
     if sp_of(arch, regs) != unwinding.chosen_sp {
-        return no_landing(Sweeping::Refused(HANDLER_FRAME_MISSED), unwinding);
+        return no_pad(Cleaning::Refused(HANDLER_FRAME_MISSED), unwinding);
     }
-    land(arch, unwinding, record, pad)
+    install(arch, unwinding, record, pad)
 }
 
 // What a frame's row says: no row goes on below the chosen number and is 22 at it.
@@ -667,9 +667,9 @@ fn by_row(arch: u8, unwinding: Unwinding, record: Record, row: Row) -> Met
     match row {
         Row::None => {
             if unwinding.number < unwinding.chosen_number {
-                return no_landing(Sweeping::On, unwinding);
+                return no_pad(Cleaning::On, unwinding);
             }
-            no_landing(Sweeping::Refused(HANDLER_FRAME_MISSED), unwinding)
+            no_pad(Cleaning::Refused(HANDLER_FRAME_MISSED), unwinding)
         }
         Row::Is(pad, action) => {
             if unwinding.number < unwinding.chosen_number {
@@ -677,12 +677,12 @@ fn by_row(arch: u8, unwinding: Unwinding, record: Record, row: Row) -> Met
             }
             at_chosen(arch, unwinding, record, pad, action)
         }
-        Row::Refused(n) => no_landing(Sweeping::Refused(n), unwinding),
+        Row::Refused(n) => no_pad(Cleaning::Refused(n), unwinding),
     }
 }
 
 // What a frame says, by the answer of its step and then by its row; an end before the chosen frame is 22.
-fn sweep_row<'a>(
+fn clean_row<'a>(
     section: &'a [u8],
     section_base: usize,
     stack: &'a [u8],
@@ -692,14 +692,14 @@ fn sweep_row<'a>(
     answer: Walked,
 ) -> Met
     ensures { λ r. ⌜
-        SweepTurn arch
+        CleanTurn arch
         (lent (now (section .entry)) «section_base» (now (stack .entry)) «stack_base» .regions)
         unwinding answer r
         ⌝ }
 {
     match answer {
-        Walked::End => no_landing(Sweeping::Refused(HANDLER_FRAME_MISSED), unwinding),
-        Walked::Refused(n) => no_landing(Sweeping::Refused(n), unwinding),
+        Walked::End => no_pad(Cleaning::Refused(HANDLER_FRAME_MISSED), unwinding),
+        Walked::Refused(n) => no_pad(Cleaning::Refused(n), unwinding),
         Walked::Past(record) => {
             let regs = unwinding.regs;
             let row = row_of(
@@ -718,16 +718,16 @@ fn sweep_row<'a>(
 }
 
 // A turn of the sweep: the frame's step, then its row.
-fn sweep_frame<'a>(
+fn clean_frame<'a>(
     section: &'a [u8],
     section_base: usize,
     stack: &'a [u8],
     stack_base: usize,
     arch: u8,
     unwinding: Unwinding,
-) -> Swept
+) -> Cleaned
     ensures { λ r. ⌜
-        Sweeps arch
+        Cleans arch
         (lent (now (section .entry)) «section_base» (now (stack .entry)) «stack_base» .regions)
         unwinding r
         ⌝ }
@@ -744,7 +744,7 @@ fn sweep_frame<'a>(
         regs,
     );
     let answer = next.answer;
-    let met = sweep_row(
+    let met = clean_row(
         section,
         section_base,
         stack,
@@ -753,7 +753,7 @@ fn sweep_frame<'a>(
         unwinding,
         answer,
     );
-    Swept { met, next }
+    Cleaned { met, next }
 }
 
 // The unwinding that goes on from a frame.
@@ -781,7 +781,7 @@ fn kept(answer: ResumeAnswer, unwinding: Unwinding) -> Resumed
 }
 
 // The next landing from an unwinding's frame on.
-fn sweep<'a>(
+fn clean<'a>(
     section: &'a [u8],
     section_base: usize,
     stack: &'a [u8],
@@ -791,28 +791,28 @@ fn sweep<'a>(
 ) -> Resumed
     ensures { λ r. ⌜
         r ≡ resumedBy unwinding
-        (Cleanup.sweepFrom 1025 arch
+        (Cleanup.cleanFrom 1025 arch
         (lent (now (section .entry)) «section_base» (now (stack .entry)) «stack_base» .regions)
         (unwinding .exception) (Spec.choiceOf unwinding) (Spec.frameOf unwinding))
         ⌝ }
 {
     let mut u = unwinding;
     loop {
-        let swept = sweep_frame(section, section_base, stack, stack_base, arch, u);
-        let next = swept.next;
+        let cleaned = clean_frame(section, section_base, stack, stack_base, arch, u);
+        let next = cleaned.next;
         let file = next.regs;
-        let met = swept.met;
+        let met = cleaned.met;
         let regs = met.regs;
         let turn = met.turn;
         match turn {
-            Sweeping::On => u = going_on(u, next.number, next.interrupted, file),
-            Sweeping::Landing => return Resumed {
-                answer: ResumeAnswer::Landing(u.number),
+            Cleaning::On => u = going_on(u, next.number, next.interrupted, file),
+            Cleaning::Install => return Resumed {
+                answer: ResumeAnswer::Install(u.number),
                 regs,
                 unwinding: going_on(u, next.number, next.interrupted, file),
             },
-            Sweeping::Fatal => return kept(ResumeAnswer::Fatal, unwinding),
-            Sweeping::Refused(n) => return kept(ResumeAnswer::Refused(n), unwinding),
+            Cleaning::Fatal => return kept(ResumeAnswer::Fatal, unwinding),
+            Cleaning::Refused(n) => return kept(ResumeAnswer::Refused(n), unwinding),
         }
     }
 }
@@ -840,7 +840,7 @@ pub fn resume<'a>(
     if unwinding.chosen_number < unwinding.number {
         return kept(ResumeAnswer::Finished, unwinding);
     }
-    sweep(section, section_base, stack, stack_base, arch, unwinding)
+    clean(section, section_base, stack, stack_base, arch, unwinding)
 }
 
 // A throw and the calls after it.
@@ -890,7 +890,7 @@ pub fn unwind<'a>(
         (lent (now (section .entry)) «section_base» (now (stack .entry)) «stack_base»)
         arch (regs .r) pc interrupted exception)
         × Promised (lent (now (section .entry)) «section_base» (now (stack .entry)) «stack_base»)
-        arch (regs .r) pc interrupted n (searched (r .raised)) (swept (r .resumed))
+        arch (regs .r) pc interrupted n (searched (r .raised)) (cleaned (r .resumed))
         ⌝ }
 {
     let raised = raise(

@@ -8,17 +8,17 @@ use Rattle.unwind.proofs.by_row.Tie as tie
 enum-told : tie.Need-enum-told
 enum-told c = search needs
 
-no-landing-requires : tie.Need-no-landing-requires
-no-landing-requires c κs = search needs
+no-pad-requires : tie.Need-no-pad-requires
+no-pad-requires c κs = search needs
 
 returns : tie.Need-returns
 returns c =
     let x = c .before .before .before .before .before .args in
     row-none-below (numbers (x .arch)) (x .unwinding) (x .«record») (x .row) _ (c .before .before .before .enum-told .given .1)
-    (c .before .if1 .taken) (c .no-landing .ensures .0)
+    (c .before .if1 .taken) (c .no-pad .ensures .0)
 
-no-landing-requires-2 : tie.Need-no-landing-requires-2
-no-landing-requires-2 c κs = search needs
+no-pad-requires-2 : tie.Need-no-pad-requires-2
+no-pad-requires-2 c κs = search needs
 
 enum-known-row : tie.Need-enum-known-row
 enum-known-row c = search needs
@@ -38,14 +38,14 @@ at-chosen-requires c κs = search needs
 enum-known-row-2 : tie.Need-enum-known-row-2
 enum-known-row-2 c = search needs
 
-no-landing-requires-3 : tie.Need-no-landing-requires-3
-no-landing-requires-3 c κs = search needs
+no-pad-requires-3 : tie.Need-no-pad-requires-3
+no-pad-requires-3 c κs = search needs
 
 returns-3 : tie.Need-returns-3
 returns-3 c =
     let x = c .before .before .before .before .before .args in
     row-none-missed (numbers (x .arch)) (x .unwinding) (x .«record») (x .row) _ (c .before .before .before .enum-told .given .1)
-    (c .before .if1 .left) (c .no-landing2 .ensures .0)
+    (c .before .if1 .left) (c .no-pad2 .ensures .0)
 
 returns-4 : tie.Need-returns-4
 returns-4 c =
@@ -56,22 +56,22 @@ returns-4 c =
 returns-5 : tie.Need-returns-5
 returns-5 c =
     let x = c .before .before .before .before .args in
-    row-refused (numbers (x .arch)) (x .unwinding) (x .«record») (x .row) _ _ (c .before .before .row2 .given .1) (c .no-landing3 .ensures .0)
+    row-refused (numbers (x .arch)) (x .unwinding) (x .«record») (x .row) _ _ (c .before .before .row2 .given .1) (c .no-pad3 .ensures .0)
 
 pub by-row-spec : {M : Type 1} → statement M
 by-row-spec =
     tie.close
     (tie.spec
     enum-told
-    no-landing-requires
+    no-pad-requires
     returns
-    no-landing-requires-2
+    no-pad-requires-2
     enum-known-row
     below-requires
     returns-2
     at-chosen-requires
     enum-known-row-2
-    no-landing-requires-3
+    no-pad-requires-3
     returns-3
     returns-4
     returns-5)

@@ -2,7 +2,7 @@
 use mathlib.Core.Path.{sym, _∙_}
 use borrow.Author.Tests.{not-true, not-false}
 use Rattle.mem.specs.Memory.{lent}
-use Rattle.unwind.proofs.Cleaning.{resumed-28, resumed-unchosen, resumed-finished, resumed-on}
+use Rattle.unwind.proofs.CleanupPhase.{resumed-28, resumed-unchosen, resumed-finished, resumed-on}
 use borrow.Author.Needs.{needs}
 use Rattle.unwind.proofs.resume.Statement.{statement}
 use Rattle.unwind.proofs.resume.Tie as tie
@@ -41,14 +41,14 @@ returns-3 c =
     (sym (c .before .before .before .before .before .before .accepted .ensures) ∙ not-false _ (c .before .before .before .before .before .if1 .left))
     (not-false _ (c .before .before .before .if2 .left)) (c .before .if3 .taken)
 
-sweep-requires : tie.Need-sweep-requires
-sweep-requires c κs = search needs
+clean-requires : tie.Need-clean-requires
+clean-requires c κs = search needs
 
 returns-4 : tie.Need-returns-4
 returns-4 c =
     let x = c .before .before .before .before .before .before .before .before .before .args in
     let l = lent (x .section .now) (x .section-base) (x .stack .now) (x .stack-base) in
-    c .sweep .ensures ∙ resumed-on l (x .arch) (x .unwinding)
+    c .clean .ensures ∙ resumed-on l (x .arch) (x .unwinding)
     (sym (c .before .before .before .before .before .before .accepted .ensures) ∙ not-false _ (c .before .before .before .before .before .if1 .left))
     (not-false _ (c .before .before .before .if2 .left)) (c .before .if3 .left)
 
@@ -63,5 +63,5 @@ resume-spec =
     returns-2
     kept-requires-3
     returns-3
-    sweep-requires
+    clean-requires
     returns-4)

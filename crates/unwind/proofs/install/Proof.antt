@@ -2,8 +2,8 @@
 use Rattle.arch.specs.Arch.{numbers}
 use Rattle.unwind.proofs.Landing.{lands, lands-refused}
 use borrow.Author.Needs.{needs}
-use Rattle.unwind.proofs.land.Statement.{statement}
-use Rattle.unwind.proofs.land.Tie as tie
+use Rattle.unwind.proofs.install.Statement.{statement}
+use Rattle.unwind.proofs.install.Tie as tie
 
 installed-requires : tie.Need-installed-requires
 installed-requires c κs = search needs
@@ -14,8 +14,8 @@ enum-told c = search needs
 enum-known-code : tie.Need-enum-known-code
 enum-known-code c = search needs
 
-no-landing-requires : tie.Need-no-landing-requires
-no-landing-requires c κs = search needs
+no-pad-requires : tie.Need-no-pad-requires
+no-pad-requires c κs = search needs
 
 returns : tie.Need-returns
 returns c =
@@ -27,9 +27,9 @@ returns-2 c =
     let x = c .before .before .before .before .before .before .before .args in
     lands-refused (numbers (x .arch)) (x .unwinding) (x .«record») (x .pad) _
     (c .before .before .before .before .before .installed .ensures) _ (c .before .before .code .given .1) _
-    (c .no-landing .ensures .0)
+    (c .no-pad .ensures .0)
 
-pub land-spec : {M : Type 1} → statement M
-land-spec =
+pub install-spec : {M : Type 1} → statement M
+install-spec =
     tie.close
-    (tie.spec installed-requires enum-told enum-known-code no-landing-requires returns returns-2)
+    (tie.spec installed-requires enum-told enum-known-code no-pad-requires returns returns-2)

@@ -4,14 +4,14 @@ use Prim.Native.Nat.{_-_}
 use native.Mathlib.Omega.{arith}
 use Rattle.mem.specs.Memory.{lent}
 use Rattle.model.specs.declared.Unwinding.{Unwinding}
-use Rattle.unwind.proofs.Cleaning.{Cleaning, sweeping-begin, sweeping-passes, sweeping-on, sweeping-lands, sweeping-fatal, sweeping-refused}
+use Rattle.unwind.proofs.CleanupPhase.{UnderWay, cleaning-begin, cleaning-passes, cleaning-on, cleaning-lands, cleaning-fatal, cleaning-refused}
 use borrow.Author.Needs.{needs}
-use Rattle.unwind.proofs.sweep.Statement.{statement}
-use Rattle.unwind.proofs.sweep.Tie as tie
+use Rattle.unwind.proofs.clean.Statement.{statement}
+use Rattle.unwind.proofs.clean.Tie as tie
 
 abbrev Inv-loop : tie.InvT-loop
 Inv-loop section section-base stack stack-base arch unwinding u₀ u =
-    Cleaning arch (lent section section-base stack stack-base .regions) unwinding u
+    UnderWay arch (lent section section-base stack stack-base .regions) unwinding u
 
 abbrev μ-loop : tie.MeasureT-loop
 μ-loop section section-base stack stack-base arch unwinding u₀ u =
@@ -19,10 +19,10 @@ abbrev μ-loop : tie.MeasureT-loop
 
 loop-holds : tie.Need-loop-holds Inv-loop μ-loop
 loop-holds c =
-    sweeping-begin _ _ _
+    cleaning-begin _ _ _
 
-sweep-frame-requires : tie.Need-sweep-frame-requires Inv-loop μ-loop
-sweep-frame-requires c κs = search needs
+clean-frame-requires : tie.Need-clean-frame-requires Inv-loop μ-loop
+clean-frame-requires c κs = search needs
 
 enum-told : tie.Need-enum-told Inv-loop μ-loop
 enum-told c = search needs
@@ -32,14 +32,14 @@ going-on-requires c κs = search needs
 
 loop-less : tie.Need-loop-less Inv-loop μ-loop
 loop-less c =
-    let p = sweeping-passes _ _ _ _ (c .before .before .before .before .before .before .before .before .loop .inv) _
-    (c .before .before .before .before .before .before .before .sweep-frame .ensures) (c .before .enum-told .given .1) in
+    let p = cleaning-passes _ _ _ _ (c .before .before .before .before .before .before .before .before .loop .inv) _
+    (c .before .before .before .before .before .before .before .clean-frame .ensures) (c .before .enum-told .given .1) in
     omega (arith, p .below, p .more, ap (λ (u : Unwinding). u .number) (c .going-on .ensures))
 
 loop-again : tie.Need-loop-again Inv-loop μ-loop
 loop-again c =
-    sweeping-on _ _ _ _ (c .before .before .before .before .before .before .before .before .loop .inv) _
-    (c .before .before .before .before .before .before .before .sweep-frame .ensures) (c .before .enum-told .given .1) _
+    cleaning-on _ _ _ _ (c .before .before .before .before .before .before .before .before .loop .inv) _
+    (c .before .before .before .before .before .before .before .clean-frame .ensures) (c .before .enum-told .given .1) _
     (c .going-on .ensures)
 
 enum-told-2 : tie.Need-enum-told-2 Inv-loop μ-loop
@@ -50,8 +50,8 @@ going-on-requires-2 c κs = search needs
 
 returns : tie.Need-returns Inv-loop μ-loop
 returns c =
-    sweeping-lands _ _ _ _ (c .before .before .before .before .before .before .before .before .loop .inv) _
-    (c .before .before .before .before .before .before .before .sweep-frame .ensures) (c .before .enum-told2 .given .1) _
+    cleaning-lands _ _ _ _ (c .before .before .before .before .before .before .before .before .loop .inv) _
+    (c .before .before .before .before .before .before .before .clean-frame .ensures) (c .before .enum-told2 .given .1) _
     (c .going-on2 .ensures)
 
 enum-told-3 : tie.Need-enum-told-3 Inv-loop μ-loop
@@ -62,8 +62,8 @@ kept-requires c κs = search needs
 
 returns-2 : tie.Need-returns-2 Inv-loop μ-loop
 returns-2 c =
-    c .kept .ensures ∙ sweeping-fatal _ _ _ _ (c .before .before .before .before .before .before .before .before .loop .inv) _
-    (c .before .before .before .before .before .before .before .sweep-frame .ensures) (c .before .enum-told3 .given .1)
+    c .kept .ensures ∙ cleaning-fatal _ _ _ _ (c .before .before .before .before .before .before .before .before .loop .inv) _
+    (c .before .before .before .before .before .before .before .clean-frame .ensures) (c .before .enum-told3 .given .1)
 
 enum-known-turn : tie.Need-enum-known-turn Inv-loop μ-loop
 enum-known-turn c = search needs
@@ -73,19 +73,19 @@ kept-requires-2 c κs = search needs
 
 returns-3 : tie.Need-returns-3 Inv-loop μ-loop
 returns-3 c =
-    c .kept2 .ensures ∙ sweeping-refused _ _ _ _
+    c .kept2 .ensures ∙ cleaning-refused _ _ _ _
     (c .before .before .before .before .before .before .before .before .before .loop .inv) _
-    (c .before .before .before .before .before .before .before .before .sweep-frame .ensures) _
+    (c .before .before .before .before .before .before .before .before .clean-frame .ensures) _
     (c .before .before .turn .given .1)
 
-pub sweep-spec : {M : Type 1} → statement M
-sweep-spec =
+pub clean-spec : {M : Type 1} → statement M
+clean-spec =
     tie.close
     (tie.spec
     Inv-loop
     μ-loop
     loop-holds
-    sweep-frame-requires
+    clean-frame-requires
     enum-told
     going-on-requires
     loop-less

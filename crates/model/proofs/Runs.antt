@@ -123,7 +123,7 @@ unfolding current
 given-answers a zero m u = refl
 given-answers a (suc n) m u = ap (unlessRefused a (sweptBy (regular m u))) (given-answers a n m (current u (regular m u)))
 
--- all that computing shows of a machine and a throw, if the throw answers so and n sweep calls follow
+-- all that computing shows of a story: of the machine that it reaches and the throw there, if that answers so and n sweep calls follow
 pub record Report : Type 0 where
   pub arch : ℕ
   pub section : Region

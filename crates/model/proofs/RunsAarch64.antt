@@ -10,12 +10,13 @@ use Rattle.model.specs.Expected.{Landing}
 use Rattle.model.proofs.Rules.{Told, does, against}
 use Rattle.model.proofs.Runs.{Story, throwAt, interruptAt, landing}
 
--- the section, at address 1000 hexadecimal; its records by chunk and index (each as it is past its first instructions):
--- - 0 0, `outer`, [4000, 4040): CFA = sp + 16, 30 in slot 1, 19 in slot 2; after a call to 4010 it catches, to 4018 it cleans up
--- - 0 1, `framed`, [4040, 4080): from 4048 on CFA = fp + 16, 30 in slot 1, 29 in slot 2, 21 in slot 3; after a call to 4060 it cleans up
+-- the section, at address 1000 hexadecimal; its records by chunk and index, each as it is past its first
+-- instructions, with its rows by the addresses that calls return to:
+-- - 0 0, `outer`, [4000, 4040): CFA = sp + 16, 30 in slot 1, 19 in slot 2; rows: 4010 catch, 4018 cleanup
+-- - 0 1, `framed`, [4040, 4080): from 4048 on CFA = fp + 16, 30 in slot 1, 29 in slot 2, 21 in slot 3; row: 4060 cleanup
 -- - 0 2, `plain`, [4080, 40c0): CFA = sp + 32, 30 in slot 1, 23 in slot 3; no table
--- - 1 0, `old`, [4100, 4140), of version 1 and kind 2: CFA = sp + 32, 30 in slot 1, 72 in slot 2, 20 in slot 3; after a call to 4114 it
---   cleans up, to 411c it terminates
+-- - 1 0, `old`, [4100, 4140), of version 1 and kind 2: CFA = sp + 32, 30 in slot 1, 72 in slot 2, 20 in slot 3; rows:
+--   4114 cleanup, 411c terminate
 abbrev pub section : List ℕ
 section =
     -- chunk 0: version 2, three records, 84 bytes
@@ -59,8 +60,8 @@ start =
       frames = [];
     }
 
--- the story: `outer` calls itself, that one calls `old`, that one `framed`, that one `plain`. The two return addresses that decide what
--- comes of it are open: to the second `outer`, and to `old`
+-- the story: `outer` calls itself, that one calls `old`, that one `framed`, that one `plain`. Two return addresses decide what comes of
+-- it, and so are left open: where the second `outer` is returned to, and where `old` is
 abbrev pub story : ℕ → ℕ → List Told
 story caller old =
     -- no frame is open yet
@@ -134,7 +135,7 @@ landings number =
     219 ∷ 1020 ∷ 1021 ∷ 1022 ∷ 1023 ∷ 1024 ∷ 1025 ∷ 1026 ∷ 1027 ∷ 1028 ∷
     1029 ∷ 0x4010 ∷ 1072 ∷ 1073 ∷ 1074 ∷ 1075 ∷ 1076 ∷ 1077 ∷ 1078 ∷ 1079 ∷ []) ∷ []
 
--- what comes of it
+-- the story to its end
 abbrev pub ends : List Told → Throw → Searched → List Landing → Story
 ends told throw answer landings = record { machine = start; told = told; throw = throw; answer = answer; landings = landings }
 

@@ -49,7 +49,6 @@ use Rattle.model.proofs.RunsAarch64 as Aarch64
 use Rattle.model.proofs.RunsX86 as X86
 
 -- the machines that the stories begin with are fresh
--- the machines that the stories begin with are fresh
 pub aarch64-fresh : Fresh Aarch64.start
 unfolding bounded apart opens isKnown
 aarch64-fresh = fresh-tested Aarch64.start refl refl refl refl refl refl

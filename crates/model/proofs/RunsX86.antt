@@ -10,13 +10,14 @@ use Rattle.model.specs.Expected.{Landing}
 use Rattle.model.proofs.Rules.{Told, does, against}
 use Rattle.model.proofs.Runs.{Story, throwAt, interruptAt, landing}
 
--- the section, at address 1000 hexadecimal; its records by chunk and index (each as it is past its first instructions):
--- - 0 0, `outer`, [4000, 4040): CFA = sp + 16, 16 in slot 1, 3 in slot 2; after a call to 4010 it catches, to 4018 it cleans up
--- - 0 1, `framed`, [4040, 4080): from 4042 on CFA = fp + 16, 16 in slot 1, 6 in slot 2, 13 in slot 3; after a call to 4060 it cleans up
+-- the section, at address 1000 hexadecimal; its records by chunk and index, each as it is past its first
+-- instructions, with its rows by the addresses that calls return to:
+-- - 0 0, `outer`, [4000, 4040): CFA = sp + 16, 16 in slot 1, 3 in slot 2; rows: 4010 catch, 4018 cleanup
+-- - 0 1, `framed`, [4040, 4080): from 4042 on CFA = fp + 16, 16 in slot 1, 6 in slot 2, 13 in slot 3; row: 4060 cleanup
 -- - 0 2, `plain`, [4080, 40c0): CFA = sp + 32, 16 in slot 1, 15 in slot 2; no table
--- - 1 0, `old`, [4100, 4140), of version 1 and kind 1: CFA = fp + 16, 16 in slot 1, 6 in slot 2, 14 in slot 3, 12 in slot 4; after a call
---   to 4114 it cleans up, to 411c it terminates
--- - 1 1, `leaf`, [4140, 4160), of version 1: CFA = sp + 8, 16 in slot 1; after a call to 4148 it terminates
+-- - 1 0, `old`, [4100, 4140), of version 1 and kind 1: CFA = fp + 16, 16 in slot 1, 6 in slot 2, 14 in slot 3, 12 in slot 4; rows:
+--   4114 cleanup, 411c terminate
+-- - 1 1, `leaf`, [4140, 4160), of version 1: CFA = sp + 8, 16 in slot 1; row: 4148 terminate
 abbrev pub section : List ℕ
 section =
     -- chunk 0: version 2, three records, 80 bytes
@@ -63,8 +64,8 @@ start =
       frames = [];
     }
 
--- the story: `outer` calls itself, that one calls `old`, that one `framed`, that one `plain`. The two return addresses that decide what
--- comes of it are open: to the second `outer`, and to `old`
+-- the story: `outer` calls itself, that one calls `old`, that one `framed`, that one `plain`. Two return addresses decide what comes of
+-- it, and so are left open: where the second `outer` is returned to, and where `old` is
 abbrev pub story : ℕ → ℕ → List Told
 story caller old =
     -- no frame is open yet
@@ -129,7 +130,7 @@ landings number =
     landing (number + 1) 0x8050 0x4124 (203 ∷ 0x8060 ∷ 112 ∷ 1013 ∷ 114 ∷ 1015 ∷ []) ∷
     landing (number + 2) 0x8070 0x4030 (203 ∷ 1006 ∷ 1012 ∷ 1013 ∷ 1014 ∷ 1015 ∷ []) ∷ []
 
--- what comes of it
+-- the story to its end
 abbrev pub ends : List Told → Throw → Searched → List Landing → Story
 ends told throw answer landings = record { machine = start; told = told; throw = throw; answer = answer; landings = landings }
 

@@ -8,7 +8,8 @@ use borrow.Author.Tests.{not-true}
 use Rattle.mem.proofs.Tests.{both}
 use Rattle.lookup.specs.Tables.{Entry, records, named}
 use Rattle.model.specs.Machine.{Open, Machine}
-use Rattle.model.specs.Event.{Event, Call, Spill, Change, Reload, Move, Write, callAllowed, spillAllowed, changeAllowed, reloadAllowed, writeAllowed, call, spill, change, reload, move, step, steps}
+use Rattle.model.specs.Event.{Event, Call, Spill, Change, Reload, Move, Write, call, spill, change, reload, move, step, steps}
+use Rattle.model.specs.Event.{callAllowed, spillAllowed, changeAllowed, reloadAllowed, writeAllowed}
 
 -- there is such a record
 abbrev isThere : Option Entry → Bool

@@ -85,6 +85,7 @@ abbrev pub allBelow : ℕ → List ℕ → Bool
 allBelow bound [] = true
 allBelow bound (x ∷ xs) = ltb x bound && allBelow bound xs
 
+-- then so is each
 below-all : (bound : ℕ) → 0 < bound → (xs : List ℕ) → allBelow bound xs ≡ true → (k : ℕ) → getD xs k 0 < bound
 below-all bound p [] h k = p
 below-all bound p (x ∷ xs) h zero = ltb-true x bound (both (ltb x bound) (allBelow bound xs) h .0)
@@ -95,6 +96,7 @@ abbrev pub allBytes : Memory → Bool
 allBytes [] = true
 allBytes (r ∷ m) = allBelow 256 (r .bytes) && allBytes m
 
+-- by that test
 bytes-all : (m : Memory) → allBytes m ≡ true → Bytes m
 bytes-all [] h i k = lit< tt
 bytes-all (r ∷ m) h zero k = below-all 256 (lit< tt) (r .bytes) (both (allBelow 256 (r .bytes)) (allBytes m) h .0) k
@@ -118,12 +120,13 @@ abbrev pub given : Arch → ℕ → Machine → Unwinding → List Given
 given a zero m u = []
 given a (suc n) m u = let o = answerOf (regular m u) in unlessRefused a o (given a n m (currentBy u u o))
 
+-- they are their answers
 given-answers : (a : Arch) (n : ℕ) (m : Machine) (u : Unwinding) → answers a (regulars n m u) ≡ given a n m u
 unfolding current
 given-answers a zero m u = refl
 given-answers a (suc n) m u = ap (unlessRefused a (answerOf (regular m u))) (given-answers a n m (current u (regular m u)))
 
--- all that computing shows of a machine and a throw, if the throw answers so and n sweep calls follow
+-- all that computing shows of a story: of the machine that it reaches and the throw there, if that answers so and n sweep calls follow
 pub record Report : Type 0 where
   pub arch : ℕ
   pub section : Region

@@ -37,6 +37,7 @@ pub record Cleaning (arch : ℕ) (m : Memory) (first u : Unwinding) : Type 0 whe
   pub kept : u ≡ goingOn first (frameOf u)
 
 module _ (arch : ℕ) (m : Memory) where
+  -- at first all of the sweep is left
   pub sweeping-begin : (u : Unwinding) → Cleaning arch m u u
   sweeping-begin u = record { fuel = 1024; left = refl; enough = omega arith; kept = refl }
 

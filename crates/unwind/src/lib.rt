@@ -201,7 +201,6 @@ fn caller_file<'a>(
             regs,
         );
     }
-    let off = offset_from(record.start, at);
     let ran = run_program(
         section,
         section_base,
@@ -210,7 +209,7 @@ fn caller_file<'a>(
         arch,
         record.program,
         record.limit,
-        off,
+        offset_from(record.start, at),
     );
     let status = ran.status;
     match status {

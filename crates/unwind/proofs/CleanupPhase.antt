@@ -37,6 +37,7 @@ pub record UnderWay (arch : ℕ) (m : Memory) (first u : Unwinding) : Type 0 whe
   pub kept : u ≡ goingOn first (frameOf u)
 
 module _ (arch : ℕ) (m : Memory) where
+  -- at first all of the sweep is left
   pub cleaning-begin : (u : Unwinding) → UnderWay arch m u u
   cleaning-begin u = record { fuel = 1024; left = refl; enough = omega arith; kept = refl }
 

@@ -73,6 +73,7 @@ pub record Searching (arch : ℕ) (m : Memory) (whole : Outcome Searched) (f : F
   pub enough : 1024 ≤ fuel + f .number
 
 module _ (arch : ℕ) (m : Memory) (f : Frame) where
+  -- at first all of the search is left
   pub searching-begin : Searching arch m (search arch m f) f
   unfolding search
   searching-begin = record { fuel = 1024; left = refl; enough = omega arith }

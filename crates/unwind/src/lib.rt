@@ -208,7 +208,6 @@ fn caller_file<'a>(
             regs,
         );
     }
-    let off = offset_from(record.start, at);
     let ran = run_program(
         section,
         section_base,
@@ -217,7 +216,7 @@ fn caller_file<'a>(
         arch,
         record.program,
         record.limit,
-        off,
+        offset_from(record.start, at),
     );
     let status = ran.status;
     match status {

@@ -1,4 +1,4 @@
--- `unwind::sweep` meets its contract. Assumes nothing.
+-- `unwind::sweep` meets its contract. The invariant is `Cleaning`; the measure is the frames that may still be given. Assumes nothing.
 use mathlib.Core.Path.{_∙_, ap}
 use Prim.Native.Nat.{_-_}
 use native.Mathlib.Omega.{arith}

@@ -1,4 +1,4 @@
--- `unwind::search` meets its contract. Assumes nothing.
+-- `unwind::search` meets its contract. The invariant is `Searching`; the measure is the frames that may still be given. Assumes nothing.
 use Prim.Native.Nat.{_-_}
 use native.Mathlib.Omega.{arith}
 use Rattle.mem.specs.Memory.{lent}

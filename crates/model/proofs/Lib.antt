@@ -34,6 +34,7 @@ pub mod FirstRow
 pub mod Exactly
 pub mod ValidRows
 pub mod Corollaries
+pub mod Promised
 pub mod Rules
 pub mod Runs
 pub mod RunsAarch64

@@ -39,7 +39,7 @@ use Rattle.model.proofs.Calls.{opened-known, Due, None, Some, calls}
 
 module _ (m : Machine) (i : Inv m) where
   -- tables and memory serve the phases
-  walks : sound (m .section .bytes) (m .section .base) (m .arch) → Walks (m .arch) (m .section) (m .stack)
+  pub walks : sound (m .section .bytes) (m .section .base) (m .arch) → Walks (m .arch) (m .section) (m .stack)
   walks s =
       record {
         goes =
@@ -103,7 +103,7 @@ module _ (m : Machine) (i : Inv m) where
 
   module _ (t : Throw) (allowed : throwAllowed m t ≡ true) (s : Sound m t) where
     -- the throw
-    throws : raisedBy m t ≡ Answer (outcome m t)
+    pub throws : raisedBy m t ≡ Answer (outcome m t)
     unfolding raisedBy raise search outcome
     throws =
         let few = i .few in
@@ -112,7 +112,7 @@ module _ (m : Machine) (i : Inv m) where
         (omega arith) (omega arith) (λ e. refl) (thrown-chain t allowed) (i .live) (s .frames) (itself t)
 
     -- what is due after it
-    starts : (exception : ℕ) → Due m (unwindingOf m t exception) (due m t)
+    pub starts : (exception : ℕ) → Due m (unwindingOf m t exception) (due m t)
     unfolding unwindingOf due outcome
     starts exception = rw throws (go (outcome m t) refl)
       where

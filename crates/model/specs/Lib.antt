@@ -12,3 +12,4 @@ pub mod Expected
 pub mod Exactly
 pub mod OtherStack
 pub mod Demand
+pub mod Call

@@ -1,7 +1,6 @@
 -- Laws of the sweep, turn by turn, and of a sweep call. Assumes nothing.
 use mathlib.Core.Path.{_≡_, refl, sym, _∙_, ap}
 use mathlib.Core.Bool.{Bool, true, false, _&&_}
-use mathlib.Core.List.{List}
 use Prim.Native.Nat.{ℕ, zero, suc, _+_, _≤_, _<_}
 use native.Mathlib.Omega.{arith}
 use borrow.Author.Tests.{lt-ltb, le-ltb}
@@ -11,17 +10,14 @@ use Rattle.failure.specs.Outcome.{Outcome, Answer, _>>=_}
 use Rattle.mem.specs.Memory.{Memory, Lent}
 use Rattle.mem.specs.Opening.{opens}
 use Rattle.arch.specs.Arch.{isKnown}
-use Rattle.arch.specs.declared.Regs.{Regs}
 use Rattle.model.specs.declared.Unwinding.{Unwinding}
 use Rattle.model.specs.FrameStep.{Frame, Step, frameStep}
 use Rattle.model.specs.Cleanup as Cleanup
 use Rattle.model.specs.Cleanup.{sweepAt, sweepFrom, sweep}
 use Rattle.model.specs.Unwinding.{frameOf, choiceOf, goingOn, resume}
-use Rattle.unwind.specs.Answers.{callerOf, stepped, unmoved, resumedBy}
-use Rattle.unwind.specs.Turns.{stepOf, sweepOr, metOr, SweepTurn, Sweeps}
-use Rattle.unwind.specs.declared.ResumeAnswer.{ResumeAnswer}
+use Rattle.unwind.specs.Answers.{callerOf, unmoved, resumedBy}
+use Rattle.unwind.specs.Turns.{sweepOr, Sweeps}
 use Rattle.unwind.specs.declared.ResumeAnswer.the-variants as answer
-use Rattle.unwind.specs.declared.Resumed.{Resumed}
 use Rattle.unwind.specs.declared.Sweeping.{Sweeping}
 use Rattle.unwind.specs.declared.Sweeping.the-variants.{On, Landing, Fatal, Refused}
 use Rattle.unwind.specs.declared.Swept.{Swept}

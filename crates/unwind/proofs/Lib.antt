@@ -6,3 +6,5 @@ pub mod Searching
 pub mod Throwing
 pub mod Landing
 pub mod Cleaning
+pub mod Calls
+pub mod Told

@@ -1,27 +1,23 @@
 -- Laws of the search phase, turn by turn. Assumes nothing.
 use mathlib.Core.Path.{_≡_, refl, sym, _∙_, ap}
-use mathlib.Core.Bool.{Bool}
-use Prim.Native.Nat.{ℕ, zero, suc, _+_, _≤_, _<_}
+use Prim.Native.Nat.{ℕ, zero, suc, _+_, _≤_}
 use native.Mathlib.Omega.{arith}
 use borrow.Author.Tests.{eq-eqb, ne-eqb}
-use Rattle.failure.specs.Outcome as Outcome
-use Rattle.failure.specs.Outcome.{Outcome, Answer, _>>=_}
+use Rattle.failure.specs.Outcome.{Outcome, _>>=_}
 use Rattle.mem.specs.Memory.{Memory}
 use Rattle.arch.specs.Arch.{Arch, numbers}
 use Rattle.arch.specs.File.{sp, pc}
-use Rattle.rows.specs.Row.{Pad, found}
+use Rattle.rows.specs.Row.{found}
 use Rattle.rows.specs.declared.Row.{Row}
 use Rattle.rows.specs.declared.Row.the-variants as row
 use Rattle.lookup.specs.declared.Record.{Record}
 use Rattle.personality.specs.Reason.{rowOf, searchedCode}
-use Rattle.model.specs.FrameStep as Walk
 use Rattle.model.specs.FrameStep.{Frame, Step, frameStep}
 use Rattle.model.specs.Search.{Searched, searchAt, searchFrom, search}
-use Rattle.unwind.specs.Answers.{callerOf, stepped, searched}
-use Rattle.unwind.specs.Turns.{stepOf, searchOr, Follows, SearchTurn, Searches}
+use Rattle.unwind.specs.Answers.{callerOf, searched}
+use Rattle.unwind.specs.Turns.{searchOr, Follows, SearchTurn, Searches}
 use Rattle.unwind.specs.declared.Walked.{Walked}
 use Rattle.unwind.specs.declared.Walked.the-variants as walked
-use Rattle.unwind.specs.declared.Stepped.{Stepped}
 use Rattle.unwind.specs.declared.RaiseAnswer.{RaiseAnswer}
 use Rattle.unwind.specs.declared.RaiseAnswer.the-variants as raise
 use Rattle.unwind.specs.declared.Looking.{Looking}

@@ -12,7 +12,10 @@ use Rattle.model.specs.Search as Search
 use Rattle.model.specs.Search.{Searched}
 use Rattle.model.specs.Cleanup as Cleanup
 use Rattle.model.specs.Cleanup.{Swept}
-use Rattle.model.specs.Unwinding.{raised, resumed}
+use Rattle.model.specs.Unwinding as Unwinding
+use Rattle.model.specs.Unwinding.{frame0, raised, resumed}
+use Rattle.model.specs.Call.{after}
+use Rattle.mem.specs.Memory.{Lent}
 use Rattle.unwind.specs.declared.Walked.the-variants as walked
 use Rattle.unwind.specs.declared.Stepped.{Stepped}
 use Rattle.unwind.specs.declared.RaiseAnswer.{RaiseAnswer}
@@ -21,6 +24,7 @@ use Rattle.unwind.specs.declared.Raised.{Raised}
 use Rattle.unwind.specs.declared.ResumeAnswer.{ResumeAnswer}
 use Rattle.unwind.specs.declared.ResumeAnswer.the-variants as resume
 use Rattle.unwind.specs.declared.Resumed.{Resumed}
+use Rattle.unwind.specs.declared.Unwound.{Unwound}
 
 -- a frame as the code takes it
 abbrev pub frameAt : ℕ → Bool → Regs → Frame
@@ -78,3 +82,26 @@ resumedBy u o = record { answer = resumeOf o; regs = record { r = fileOf (u .reg
 -- an answer beside the unwinding that came in
 abbrev pub unmoved : ResumeAnswer → Unwinding → Resumed
 unmoved answer u = record { answer = answer; regs = u .regs; unwinding = u }
+
+-- the outcome that an answer tells of: for a landing with the file at the pad, and the frame that the unwinding goes on from
+abbrev pub sweptAs : ResumeAnswer → List ℕ → Frame → Outcome Swept
+sweptAs (resume.Landing number) file next = Answer (Cleanup.Landing number file next)
+sweptAs resume.Fatal file next = Answer Cleanup.Fatal
+sweptAs resume.Finished file next = Answer Cleanup.Finished
+sweptAs (resume.Refused n) file next = Outcome.Refused n
+
+abbrev pub swept : Resumed → Outcome Swept
+swept r = sweptAs (r .answer) (r .regs .r) (Unwinding.frameOf (r .unwinding))
+
+-- call number n of resume, counted from 0
+abbrev pub callNumber : ℕ → Lent → ℕ → Unwinding → Resumed
+callNumber n l arch u = resumedBy (after n l arch u) (Unwinding.resume l arch (after n l arch u))
+
+-- a throw, and call number n after it
+abbrev pub unwoundBy : ℕ → Lent → ℕ → List ℕ → ℕ → Bool → ℕ → Unwound
+unwoundBy n l arch file pc interrupted exception =
+    record {
+      raised = raiseOf (Unwinding.raise l arch file pc interrupted);
+      resumed =
+          callNumber n l arch (raised (frame0 file pc interrupted) exception (Unwinding.raise l arch file pc interrupted));
+    }

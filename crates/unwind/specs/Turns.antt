@@ -5,7 +5,7 @@ use Prim.Native.Nat.{ℕ}
 use Rattle.failure.specs.Outcome as Outcome
 use Rattle.failure.specs.Outcome.{Outcome, Answer, _>>=_}
 use Rattle.mem.specs.Memory.{Memory}
-use Rattle.arch.specs.Arch.{Arch, numbers}
+use Rattle.arch.specs.Arch.{Arch}
 use Rattle.rows.specs.Row.{Found, Pad}
 use Rattle.lookup.specs.declared.Record.{Record}
 use Rattle.personality.specs.Reason.{searchedCode}

@@ -10,12 +10,13 @@ ghost use Rattle.mem.specs.Opening.{opens};
 ghost use Rattle.arch.specs.Arch.{numbers, isKnown};
 ghost use Rattle.arch.specs.File.{sp, pc};
 ghost use Rattle.arch.specs.Answers.{next};
-ghost use Rattle.rows.specs.Row.{Pad, found};
+ghost use Rattle.rows.specs.Row.{found};
 ghost use Rattle.model.specs.FrameStep as Walk;
 ghost use Rattle.model.specs.Search as Search;
 ghost use Rattle.model.specs.Cleanup as Cleanup;
 ghost use Rattle.model.specs.Unwinding as Spec;
-ghost use Rattle.unwind.specs.Answers.{frameAt, callerOf, stepped, searched, raisedBy, unmoved, resumedBy};
+ghost use Rattle.model.specs.Call.{Promised};
+ghost use Rattle.unwind.specs.Answers.{frameAt, stepped, searched, raisedBy, unmoved, resumedBy, swept, callNumber, unwoundBy};
 ghost use Rattle.unwind.specs.Turns.{Follows, SearchTurn, Searches, Lands, Below, AtChosen, ByRow, SweepTurn, Sweeps};
 use arch::Next;
 use arch::Regs;
@@ -89,6 +90,12 @@ pub struct Resumed {
     pub answer: ResumeAnswer,
     pub regs: Regs,
     pub unwinding: Unwinding,
+}
+
+// A throw, and one of the calls after it.
+pub struct Unwound {
+    pub raised: RaiseAnswer,
+    pub resumed: Resumed,
 }
 
 // A turn of the search: it goes on with the next frame, or stops.
@@ -749,15 +756,14 @@ fn sweep_frame<'a>(
     Swept { met, next }
 }
 
-// The unwinding that goes on from the frame that a step hands back.
-fn going_on(unwinding: Unwinding, next: Stepped) -> Unwinding
-    ensures { λ r. ⌜ r ≡ Spec.goingOn unwinding (callerOf next) ⌝ }
+// The unwinding that goes on from a frame.
+fn going_on(unwinding: Unwinding, number: usize, interrupted: bool, regs: Regs) -> Unwinding
+    ensures { λ r. ⌜ r ≡ Spec.goingOn unwinding (frameAt number interrupted regs) ⌝ }
 {
-    let regs = next.regs;
     Unwinding {
         regs,
-        number: next.number,
-        interrupted: next.interrupted,
+        number,
+        interrupted,
         ..unwinding
     }
 }
@@ -794,15 +800,16 @@ fn sweep<'a>(
     loop {
         let swept = sweep_frame(section, section_base, stack, stack_base, arch, u);
         let next = swept.next;
+        let file = next.regs;
         let met = swept.met;
         let regs = met.regs;
         let turn = met.turn;
         match turn {
-            Sweeping::On => u = going_on(u, next),
+            Sweeping::On => u = going_on(u, next.number, next.interrupted, file),
             Sweeping::Landing => return Resumed {
                 answer: ResumeAnswer::Landing(u.number),
                 regs,
-                unwinding: going_on(u, next),
+                unwinding: going_on(u, next.number, next.interrupted, file),
             },
             Sweeping::Fatal => return kept(ResumeAnswer::Fatal, unwinding),
             Sweeping::Refused(n) => return kept(ResumeAnswer::Refused(n), unwinding),
@@ -834,4 +841,81 @@ pub fn resume<'a>(
         return kept(ResumeAnswer::Finished, unwinding);
     }
     sweep(section, section_base, stack, stack_base, arch, unwinding)
+}
+
+// A throw and the calls after it.
+
+// Call number n of resume, counted from 0, each with what the one before it handed back.
+fn resume_nth<'a>(
+    section: &'a [u8],
+    section_base: usize,
+    stack: &'a [u8],
+    stack_base: usize,
+    arch: u8,
+    unwinding: Unwinding,
+    n: usize,
+) -> Resumed
+    ensures { λ r. ⌜
+        r ≡ callNumber n
+        (lent (now (section .entry)) «section_base» (now (stack .entry)) «stack_base»)
+        arch unwinding
+        ⌝ }
+{
+    let mut u = unwinding;
+    let mut i = 0;
+    while i < n {
+        let resumed = resume(section, section_base, stack, stack_base, arch, u);
+        u = resumed.unwinding;
+        i = i + 1;
+    }
+    resume(section, section_base, stack, stack_base, arch, u)
+}
+
+// raise, then n + 1 calls of resume: the answers of the throw and of the last call. At a machine's throw they are those of document
+// 01's demand 3.
+pub fn unwind<'a>(
+    section: &'a [u8],
+    section_base: usize,
+    stack: &'a [u8],
+    stack_base: usize,
+    arch: u8,
+    regs: Regs,
+    pc: usize,
+    interrupted: bool,
+    exception: usize,
+    n: usize,
+) -> Unwound
+    ensures { λ r. ⌜
+        (r ≡ unwoundBy n
+        (lent (now (section .entry)) «section_base» (now (stack .entry)) «stack_base»)
+        arch (regs .r) pc interrupted exception)
+        × Promised (lent (now (section .entry)) «section_base» (now (stack .entry)) «stack_base»)
+        arch (regs .r) pc interrupted n (searched (r .raised)) (swept (r .resumed))
+        ⌝ }
+{
+    let raised = raise(
+        section,
+        section_base,
+        stack,
+        stack_base,
+        arch,
+        regs,
+        pc,
+        interrupted,
+        exception,
+    );
+    let resumed = resume_nth(
+        section,
+        section_base,
+        stack,
+        stack_base,
+        arch,
+        raised.unwinding,
+        n,
+    );
+    let answer = raised.answer;
+    Unwound {
+        raised: answer,
+        resumed,
+    }
 }

@@ -22,7 +22,9 @@ no-landing-requires-2 c κs = search needs
 returns-2 : tie.Need-returns-2
 returns-2 c =
     let x = c .before .before .before .before .before .before .args in
-    chosen-missed (numbers (x .arch)) (x .unwinding) (x .«record») (x .pad) (x .action) _ (c .before .before .before .before .before .if1 .left) _ (c .before .before .before .sp-of .ensures) (c .before .if2 .taken) (c .no-landing2 .ensures .0)
+    chosen-missed (numbers (x .arch)) (x .unwinding) (x .«record») (x .pad) (x .action) _
+    (c .before .before .before .before .before .if1 .left) _ (c .before .before .before .sp-of .ensures) (c .before .if2 .taken)
+    (c .no-landing2 .ensures .0)
 
 land-requires : tie.Need-land-requires
 land-requires c κs = search needs
@@ -30,7 +32,9 @@ land-requires c κs = search needs
 returns-3 : tie.Need-returns-3
 returns-3 c =
     let x = c .before .before .before .before .before .before .args in
-    chosen-lands (numbers (x .arch)) (x .unwinding) (x .«record») (x .pad) (x .action) (c .land .result) (c .before .before .before .before .before .if1 .left) _ (c .before .before .before .sp-of .ensures) (c .before .if2 .left) (c .land .ensures)
+    chosen-lands (numbers (x .arch)) (x .unwinding) (x .«record») (x .pad) (x .action) (c .land .result)
+    (c .before .before .before .before .before .if1 .left) _ (c .before .before .before .sp-of .ensures) (c .before .if2 .left)
+    (c .land .ensures)
 
 pub at-chosen-spec : {M : Type 1} → statement M
 at-chosen-spec =

@@ -19,7 +19,8 @@ no-landing-requires c κs = search needs
 returns-2 : tie.Need-returns-2
 returns-2 c =
     let x = c .before .before .before .args in
-    below-catch (numbers (x .arch)) (x .unwinding) (x .«record») (x .pad) (x .action) _ (c .before .before .if1 .left) (c .before .if2 .taken) (c .no-landing .ensures .0)
+    below-catch (numbers (x .arch)) (x .unwinding) (x .«record») (x .pad) (x .action) _ (c .before .before .if1 .left)
+    (c .before .if2 .taken) (c .no-landing .ensures .0)
 
 no-landing-requires-2 : tie.Need-no-landing-requires-2
 no-landing-requires-2 c κs = search needs
@@ -27,7 +28,8 @@ no-landing-requires-2 c κs = search needs
 returns-3 : tie.Need-returns-3
 returns-3 c =
     let x = c .before .before .before .args in
-    below-terminate (numbers (x .arch)) (x .unwinding) (x .«record») (x .pad) (x .action) _ (c .before .before .if1 .left) (c .before .if2 .left) (c .no-landing2 .ensures .0)
+    below-terminate (numbers (x .arch)) (x .unwinding) (x .«record») (x .pad) (x .action) _ (c .before .before .if1 .left)
+    (c .before .if2 .left) (c .no-landing2 .ensures .0)
 
 pub below-spec : {M : Type 1} → statement M
 below-spec =

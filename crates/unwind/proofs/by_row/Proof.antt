@@ -14,7 +14,8 @@ no-landing-requires c κs = search needs
 returns : tie.Need-returns
 returns c =
     let x = c .before .before .before .before .before .args in
-    row-none-below (numbers (x .arch)) (x .unwinding) (x .«record») (x .row) _ (c .before .before .before .enum-told .given .1) (c .before .if1 .taken) (c .no-landing .ensures .0)
+    row-none-below (numbers (x .arch)) (x .unwinding) (x .«record») (x .row) _ (c .before .before .before .enum-told .given .1)
+    (c .before .if1 .taken) (c .no-landing .ensures .0)
 
 no-landing-requires-2 : tie.Need-no-landing-requires-2
 no-landing-requires-2 c κs = search needs
@@ -28,7 +29,8 @@ below-requires c κs = search needs
 returns-2 : tie.Need-returns-2
 returns-2 c =
     let x = c .before .before .before .before .before .before .args in
-    row-below (numbers (x .arch)) (x .unwinding) (x .«record») (x .row) (c .below .result) _ _ (c .before .before .before .before .row .given .1) (c .before .if2 .taken) (c .below .ensures)
+    row-below (numbers (x .arch)) (x .unwinding) (x .«record») (x .row) (c .below .result) _ _
+    (c .before .before .before .before .row .given .1) (c .before .if2 .taken) (c .below .ensures)
 
 at-chosen-requires : tie.Need-at-chosen-requires
 at-chosen-requires c κs = search needs
@@ -42,12 +44,14 @@ no-landing-requires-3 c κs = search needs
 returns-3 : tie.Need-returns-3
 returns-3 c =
     let x = c .before .before .before .before .before .args in
-    row-none-missed (numbers (x .arch)) (x .unwinding) (x .«record») (x .row) _ (c .before .before .before .enum-told .given .1) (c .before .if1 .left) (c .no-landing2 .ensures .0)
+    row-none-missed (numbers (x .arch)) (x .unwinding) (x .«record») (x .row) _ (c .before .before .before .enum-told .given .1)
+    (c .before .if1 .left) (c .no-landing2 .ensures .0)
 
 returns-4 : tie.Need-returns-4
 returns-4 c =
     let x = c .before .before .before .before .before .before .args in
-    row-chosen (numbers (x .arch)) (x .unwinding) (x .«record») (x .row) (c .at-chosen .result) _ _ (c .before .before .before .before .row .given .1) (c .before .if2 .left) (c .at-chosen .ensures)
+    row-chosen (numbers (x .arch)) (x .unwinding) (x .«record») (x .row) (c .at-chosen .result) _ _
+    (c .before .before .before .before .row .given .1) (c .before .if2 .left) (c .at-chosen .ensures)
 
 returns-5 : tie.Need-returns-5
 returns-5 c =

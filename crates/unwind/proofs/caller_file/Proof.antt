@@ -1,5 +1,5 @@
 -- `unwind::caller_file` meets its contract. Assumes nothing.
-use mathlib.Core.Path.{refl, sym, _∙_, ap}
+use mathlib.Core.Path.{_∙_, ap}
 use Rattle.arch.specs.Answers.{next}
 use Rattle.personality.proofs.Ran.{ran-done, ran-refused}
 use Rattle.unwind.proofs.Walks.{caller-1, caller-2, caller-refused}
@@ -34,13 +34,15 @@ returns-2 c =
     let t = c .before .before .before in
     c .apply-state .ensures
     ∙ ap (next _)
-    (caller-2 _ _ _ _ _ _ (t .before .before .if1 .left) _ (t .before .offset-from .ensures) _ (ran-done _ _ _ (t .run-program .ensures) (c .before .enum-told .given .1)))
+    (caller-2 _ _ _ _ _ _ (t .before .before .if1 .left) _ (t .before .offset-from .ensures) _
+    (ran-done _ _ _ (t .run-program .ensures) (c .before .enum-told .given .1)))
 
 returns-3 : tie.Need-returns-3
 returns-3 c =
     let t = c .before .before .before in
     ap (next _)
-    (caller-refused _ _ _ _ _ _ (t .before .before .if1 .left) _ (t .before .offset-from .ensures) _ (ran-refused _ _ _ (t .run-program .ensures) _ (c .before .status .given .1)))
+    (caller-refused _ _ _ _ _ _ (t .before .before .if1 .left) _ (t .before .offset-from .ensures) _
+    (ran-refused _ _ _ (t .run-program .ensures) _ (c .before .status .given .1)))
 
 pub caller-file-spec : {M : Type 1} → statement M
 caller-file-spec =

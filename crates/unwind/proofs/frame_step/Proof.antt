@@ -1,5 +1,5 @@
 -- `unwind::frame_step` meets its contract. Assumes nothing.
-use mathlib.Core.Path.{refl, sym, _∙_, ap}
+use mathlib.Core.Path.{sym, _∙_, ap}
 use Prim.Native.Nat.{ℕ}
 use Rattle.model.specs.FrameStep.{lookedUp}
 use Rattle.unwind.specs.Answers.{stepped}
@@ -77,42 +77,54 @@ returns-3 c =
     let t = c .before .before .before .before in
     c .past .ensures
     ∙ ap (stepped _)
-    (step-looked _ _ _ _ (t .before .before .before .before .pc .ensures) (t .before .before .before .if1 .left) (t .before .before .if2 .left) _ (t .before .looked-up .ensures) _ _ (t .lookup-part .ensures) (c .before .before .«record» .given .1))
+    (step-looked _ _ _ _ (t .before .before .before .before .pc .ensures) (t .before .before .before .if1 .left)
+    (t .before .before .if2 .left) _ (t .before .looked-up .ensures) _ _ (t .lookup-part .ensures)
+    (c .before .before .«record» .given .1))
 
 returns-4 : tie.Need-returns-4
 returns-4 c =
     let t = c .before .before .before in
     c .ended2 .ensures
     ∙ ap (stepped _)
-    (step-looked _ _ _ _ (t .before .before .before .before .pc .ensures) (t .before .before .before .if1 .left) (t .before .before .if2 .left) _ (t .before .looked-up .ensures) _ _ (t .lookup-part .ensures) (c .before .enum-told .given .1))
+    (step-looked _ _ _ _ (t .before .before .before .before .pc .ensures) (t .before .before .before .if1 .left)
+    (t .before .before .if2 .left) _ (t .before .looked-up .ensures) _ _ (t .lookup-part .ensures)
+    (c .before .enum-told .given .1))
 
 returns-5 : tie.Need-returns-5
 returns-5 c =
     let t = c .before .before .before in
     c .refused2 .ensures
     ∙ ap (stepped _)
-    (step-looked _ _ _ _ (t .before .before .before .before .pc .ensures) (t .before .before .before .if1 .left) (t .before .before .if2 .left) _ (t .before .looked-up .ensures) _ _ (t .lookup-part .ensures) (c .before .enum-told2 .given .1))
+    (step-looked _ _ _ _ (t .before .before .before .before .pc .ensures) (t .before .before .before .if1 .left)
+    (t .before .before .if2 .left) _ (t .before .looked-up .ensures) _ _ (t .lookup-part .ensures)
+    (c .before .enum-told2 .given .1))
 
 returns-6 : tie.Need-returns-6
 returns-6 c =
     let t = c .before .before .before in
     c .refused3 .ensures
     ∙ ap (stepped _)
-    (step-looked _ _ _ _ (t .before .before .before .before .pc .ensures) (t .before .before .before .if1 .left) (t .before .before .if2 .left) _ (t .before .looked-up .ensures) _ _ (t .lookup-part .ensures) (c .before .enum-told3 .given .1))
+    (step-looked _ _ _ _ (t .before .before .before .before .pc .ensures) (t .before .before .before .if1 .left)
+    (t .before .before .if2 .left) _ (t .before .looked-up .ensures) _ _ (t .lookup-part .ensures)
+    (c .before .enum-told3 .given .1))
 
 returns-7 : tie.Need-returns-7
 returns-7 c =
     let t = c .before .before .before in
     c .refused4 .ensures
     ∙ ap (stepped _)
-    (step-looked _ _ _ _ (t .before .before .before .before .pc .ensures) (t .before .before .before .if1 .left) (t .before .before .if2 .left) _ (t .before .looked-up .ensures) _ _ (t .lookup-part .ensures) (c .before .enum-told4 .given .1))
+    (step-looked _ _ _ _ (t .before .before .before .before .pc .ensures) (t .before .before .before .if1 .left)
+    (t .before .before .if2 .left) _ (t .before .looked-up .ensures) _ _ (t .lookup-part .ensures)
+    (c .before .enum-told4 .given .1))
 
 returns-8 : tie.Need-returns-8
 returns-8 c =
     let t = c .before .before .before in
     c .refused5 .ensures
     ∙ ap (stepped _)
-    (step-looked _ _ _ _ (t .before .before .before .before .pc .ensures) (t .before .before .before .if1 .left) (t .before .before .if2 .left) _ (t .before .looked-up .ensures) _ _ (t .lookup-part .ensures) (c .before .enum-told5 .given .1))
+    (step-looked _ _ _ _ (t .before .before .before .before .pc .ensures) (t .before .before .before .if1 .left)
+    (t .before .before .if2 .left) _ (t .before .looked-up .ensures) _ _ (t .lookup-part .ensures)
+    (c .before .enum-told5 .given .1))
 
 pub frame-step-spec : {M : Type 1} → statement M
 frame-step-spec =

@@ -25,7 +25,9 @@ returns c =
 returns-2 : tie.Need-returns-2
 returns-2 c =
     let x = c .before .before .before .before .before .before .before .args in
-    lands-refused (numbers (x .arch)) (x .unwinding) (x .«record») (x .pad) _ (c .before .before .before .before .before .installed .ensures) _ (c .before .before .code .given .1) _ (c .no-landing .ensures .0)
+    lands-refused (numbers (x .arch)) (x .unwinding) (x .«record») (x .pad) _
+    (c .before .before .before .before .before .installed .ensures) _ (c .before .before .code .given .1) _
+    (c .no-landing .ensures .0)
 
 pub land-spec : {M : Type 1} → statement M
 land-spec =

@@ -1,5 +1,5 @@
 -- `unwind::next_frame` meets its contract. Assumes nothing.
-use mathlib.Core.Path.{refl, sym, _∙_, ap}
+use mathlib.Core.Path.{sym, _∙_, ap}
 use borrow.Author.Tests.{not-true, not-false}
 use Rattle.model.specs.Unwinding.{nextFrame}
 use Rattle.unwind.specs.Answers.{stepped}

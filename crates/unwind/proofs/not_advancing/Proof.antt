@@ -1,5 +1,5 @@
 -- `unwind::not_advancing` meets its contract. Assumes nothing.
-use mathlib.Core.Path.{refl, sym, _∙_, ap}
+use mathlib.Core.Path.{sym}
 use borrow.Author.Tests.{eq-eqb, ne-eqb, lt-ltb, le-ltb}
 use Rattle.model.specs.FrameStep.{notAdvancing}
 use borrow.Author.Needs.{needs}

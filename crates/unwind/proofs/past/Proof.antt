@@ -1,5 +1,5 @@
 -- `unwind::past` meets its contract. Assumes nothing.
-use mathlib.Core.Path.{refl, sym, _∙_, ap}
+use mathlib.Core.Path.{sym, _∙_, ap}
 use Rattle.frame.proofs.Next.{next-done, next-refused}
 use Rattle.unwind.specs.Answers.{stepped}
 use Rattle.unwind.proofs.Walks.{past-refused, past-20, past-on}
@@ -25,7 +25,8 @@ returns c =
     let e = t .before .before .before .before .pre .1 in
     c .refused .ensures
     ∙ ap (stepped _)
-    (past-20 _ _ _ _ _ e _ (next-done _ _ _ (t .before .caller-file .ensures) (c .before .before .before .enum-told .given .1)) (sym (c .before .before .not-advancing .ensures) ∙ c .before .if1 .taken))
+    (past-20 _ _ _ _ _ e _ (next-done _ _ _ (t .before .caller-file .ensures) (c .before .before .before .enum-told .given .1))
+    (sym (c .before .before .not-advancing .ensures) ∙ c .before .if1 .taken))
 
 add-t18 : tie.Need-add-t18
 add-t18 c = search needs
@@ -41,7 +42,8 @@ returns-2 c =
     let t = c .before .before .before .before in
     let e = t .before .before .before .before .pre .1 in
     ap (stepped _)
-    (past-on _ _ _ _ _ e _ (next-done _ _ _ (t .before .caller-file .ensures) (c .before .before .enum-told .given .1)) (sym (c .before .not-advancing .ensures) ∙ c .if1 .left))
+    (past-on _ _ _ _ _ e _ (next-done _ _ _ (t .before .caller-file .ensures) (c .before .before .enum-told .given .1))
+    (sym (c .before .not-advancing .ensures) ∙ c .if1 .left))
 
 returns-3 : tie.Need-returns-3
 returns-3 c =

@@ -1,5 +1,5 @@
 -- `unwind::raise` meets its contract. Assumes nothing.
-use mathlib.Core.Path.{refl, sym, _∙_, ap}
+use mathlib.Core.Path.{sym, _∙_}
 use borrow.Author.Tests.{not-true, not-false}
 use Rattle.mem.specs.Memory.{lent}
 use Rattle.unwind.proofs.Throwing.{raised-28, raised-on}

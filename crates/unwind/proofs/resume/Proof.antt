@@ -1,5 +1,5 @@
 -- `unwind::resume` meets its contract. Assumes nothing.
-use mathlib.Core.Path.{refl, sym, _∙_, ap}
+use mathlib.Core.Path.{sym, _∙_}
 use borrow.Author.Tests.{not-true, not-false}
 use Rattle.mem.specs.Memory.{lent}
 use Rattle.unwind.proofs.Cleaning.{resumed-28, resumed-unchosen, resumed-finished, resumed-on}
@@ -26,7 +26,9 @@ returns-2 : tie.Need-returns-2
 returns-2 c =
     let x = c .before .before .before .before .before .before .before .args in
     let l = lent (x .section .now) (x .section-base) (x .stack .now) (x .stack-base) in
-    c .kept2 .ensures ∙ resumed-unchosen l (x .arch) (x .unwinding) (sym (c .before .before .before .before .accepted .ensures) ∙ not-false _ (c .before .before .before .if1 .left)) (not-true _ (c .before .if2 .taken))
+    c .kept2 .ensures ∙ resumed-unchosen l (x .arch) (x .unwinding)
+    (sym (c .before .before .before .before .accepted .ensures) ∙ not-false _ (c .before .before .before .if1 .left))
+    (not-true _ (c .before .if2 .taken))
 
 kept-requires-3 : tie.Need-kept-requires-3
 kept-requires-3 c κs = search needs
@@ -35,7 +37,9 @@ returns-3 : tie.Need-returns-3
 returns-3 c =
     let x = c .before .before .before .before .before .before .before .before .before .args in
     let l = lent (x .section .now) (x .section-base) (x .stack .now) (x .stack-base) in
-    c .kept3 .ensures ∙ resumed-finished l (x .arch) (x .unwinding) (sym (c .before .before .before .before .before .before .accepted .ensures) ∙ not-false _ (c .before .before .before .before .before .if1 .left)) (not-false _ (c .before .before .before .if2 .left)) (c .before .if3 .taken)
+    c .kept3 .ensures ∙ resumed-finished l (x .arch) (x .unwinding)
+    (sym (c .before .before .before .before .before .before .accepted .ensures) ∙ not-false _ (c .before .before .before .before .before .if1 .left))
+    (not-false _ (c .before .before .before .if2 .left)) (c .before .if3 .taken)
 
 sweep-requires : tie.Need-sweep-requires
 sweep-requires c κs = search needs
@@ -44,7 +48,20 @@ returns-4 : tie.Need-returns-4
 returns-4 c =
     let x = c .before .before .before .before .before .before .before .before .before .args in
     let l = lent (x .section .now) (x .section-base) (x .stack .now) (x .stack-base) in
-    c .sweep .ensures ∙ resumed-on l (x .arch) (x .unwinding) (sym (c .before .before .before .before .before .before .accepted .ensures) ∙ not-false _ (c .before .before .before .before .before .if1 .left)) (not-false _ (c .before .before .before .if2 .left)) (c .before .if3 .left)
+    c .sweep .ensures ∙ resumed-on l (x .arch) (x .unwinding)
+    (sym (c .before .before .before .before .before .before .accepted .ensures) ∙ not-false _ (c .before .before .before .before .before .if1 .left))
+    (not-false _ (c .before .before .before .if2 .left)) (c .before .if3 .left)
 
 pub resume-spec : {M : Type 1} → statement M
-resume-spec = tie.close (tie.spec accepted-requires kept-requires returns kept-requires-2 returns-2 kept-requires-3 returns-3 sweep-requires returns-4)
+resume-spec =
+    tie.close
+    (tie.spec
+    accepted-requires
+    kept-requires
+    returns
+    kept-requires-2
+    returns-2
+    kept-requires-3
+    returns-3
+    sweep-requires
+    returns-4)

@@ -30,19 +30,22 @@ enum-told c = search needs
 
 loop-less : tie.Need-loop-less Inv-loop μ-loop
 loop-less c =
-    let p = searching-passes _ _ _ _ (c .before .before .before .before .before .loop .inv) _ (c .before .before .before .before .search-frame .ensures) (c .before .enum-told .given .1) in
+    let p = searching-passes _ _ _ _ (c .before .before .before .before .before .loop .inv) _
+    (c .before .before .before .before .search-frame .ensures) (c .before .enum-told .given .1) in
     omega (arith, p .below, p .more)
 
 loop-again : tie.Need-loop-again Inv-loop μ-loop
 loop-again c =
-    searching-on _ _ _ _ (c .before .before .before .before .before .loop .inv) _ (c .before .before .before .before .search-frame .ensures) (c .before .enum-told .given .1)
+    searching-on _ _ _ _ (c .before .before .before .before .before .loop .inv) _
+    (c .before .before .before .before .search-frame .ensures) (c .before .enum-told .given .1)
 
 enum-known-turn : tie.Need-enum-known-turn Inv-loop μ-loop
 enum-known-turn c = search needs
 
 returns : tie.Need-returns Inv-loop μ-loop
 returns c =
-    searching-stop _ _ _ _ (c .before .before .before .before .before .loop .inv) _ (c .before .before .before .before .search-frame .ensures) _ (c .before .turn .given .1)
+    searching-stop _ _ _ _ (c .before .before .before .before .before .loop .inv) _
+    (c .before .before .before .before .search-frame .ensures) _ (c .before .turn .given .1)
 
 pub search-spec : {M : Type 1} → statement M
 search-spec =

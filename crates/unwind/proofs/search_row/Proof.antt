@@ -52,21 +52,25 @@ returns-3 c =
     let x = c .before .before .before .before .before .before .before .before .before .args in
     let f = frameAt (x .number) (x .interrupted) (x .regs) in
     let m = lent (x .section .now) (x .section-base) (x .stack .now) (x .stack-base) .regions in
-    turn-none (x .arch) m f (x .answer) _ (c .before .before .before .before .before .answer2 .given .1) _ (c .before .before .before .pc .ensures) _ (c .before .before .row-of .ensures) (c .enum-told2 .given .1)
+    turn-none (x .arch) m f (x .answer) _ (c .before .before .before .before .before .answer2 .given .1) _
+    (c .before .before .before .pc .ensures) _ (c .before .before .row-of .ensures) (c .enum-told2 .given .1)
 
 returns-4 : tie.Need-returns-4
 returns-4 c =
     let x = c .before .before .before .before .before .before .before .before .before .before .before .args in
     let f = frameAt (x .number) (x .interrupted) (x .regs) in
     let m = lent (x .section .now) (x .section-base) (x .stack .now) (x .stack-base) .regions in
-    turn-row (x .arch) m f (x .answer) _ (c .before .before .before .before .before .before .before .answer2 .given .1) _ (c .before .before .before .before .before .pc .ensures) _ (c .before .before .before .before .row-of .ensures) _ _ (c .search-action .result) (c .before .before .action .given .1) (c .search-action .ensures)
+    turn-row (x .arch) m f (x .answer) _ (c .before .before .before .before .before .before .before .answer2 .given .1) _
+    (c .before .before .before .before .before .pc .ensures) _ (c .before .before .before .before .row-of .ensures) _ _
+    (c .search-action .result) (c .before .before .action .given .1) (c .search-action .ensures)
 
 returns-5 : tie.Need-returns-5
 returns-5 c =
     let x = c .before .before .before .before .before .before .before .before .before .before .args in
     let f = frameAt (x .number) (x .interrupted) (x .regs) in
     let m = lent (x .section .now) (x .section-base) (x .stack .now) (x .stack-base) .regions in
-    turn-row-refused (x .arch) m f (x .answer) _ (c .before .before .before .before .before .before .answer2 .given .1) _ (c .before .before .before .before .pc .ensures) _ (c .before .before .before .row-of .ensures) _ (c .before .n .given .1)
+    turn-row-refused (x .arch) m f (x .answer) _ (c .before .before .before .before .before .before .answer2 .given .1) _
+    (c .before .before .before .before .pc .ensures) _ (c .before .before .before .row-of .ensures) _ (c .before .n .given .1)
 
 pub search-row-spec : {M : Type 1} → statement M
 search-row-spec =

@@ -32,12 +32,15 @@ going-on-requires c κs = search needs
 
 loop-less : tie.Need-loop-less Inv-loop μ-loop
 loop-less c =
-    let p = sweeping-passes _ _ _ _ (c .before .before .before .before .before .before .before .loop .inv) _ (c .before .before .before .before .before .before .sweep-frame .ensures) (c .before .enum-told .given .1) in
+    let p = sweeping-passes _ _ _ _ (c .before .before .before .before .before .before .before .before .loop .inv) _
+    (c .before .before .before .before .before .before .before .sweep-frame .ensures) (c .before .enum-told .given .1) in
     omega (arith, p .below, p .more, ap (λ (u : Unwinding). u .number) (c .going-on .ensures))
 
 loop-again : tie.Need-loop-again Inv-loop μ-loop
 loop-again c =
-    sweeping-on _ _ _ _ (c .before .before .before .before .before .before .before .loop .inv) _ (c .before .before .before .before .before .before .sweep-frame .ensures) (c .before .enum-told .given .1) _ (c .going-on .ensures)
+    sweeping-on _ _ _ _ (c .before .before .before .before .before .before .before .before .loop .inv) _
+    (c .before .before .before .before .before .before .before .sweep-frame .ensures) (c .before .enum-told .given .1) _
+    (c .going-on .ensures)
 
 enum-told-2 : tie.Need-enum-told-2 Inv-loop μ-loop
 enum-told-2 c = search needs
@@ -47,7 +50,9 @@ going-on-requires-2 c κs = search needs
 
 returns : tie.Need-returns Inv-loop μ-loop
 returns c =
-    sweeping-lands _ _ _ _ (c .before .before .before .before .before .before .before .loop .inv) _ (c .before .before .before .before .before .before .sweep-frame .ensures) (c .before .enum-told2 .given .1) _ (c .going-on2 .ensures)
+    sweeping-lands _ _ _ _ (c .before .before .before .before .before .before .before .before .loop .inv) _
+    (c .before .before .before .before .before .before .before .sweep-frame .ensures) (c .before .enum-told2 .given .1) _
+    (c .going-on2 .ensures)
 
 enum-told-3 : tie.Need-enum-told-3 Inv-loop μ-loop
 enum-told-3 c = search needs
@@ -57,7 +62,8 @@ kept-requires c κs = search needs
 
 returns-2 : tie.Need-returns-2 Inv-loop μ-loop
 returns-2 c =
-    c .kept .ensures ∙ sweeping-fatal _ _ _ _ (c .before .before .before .before .before .before .before .loop .inv) _ (c .before .before .before .before .before .before .sweep-frame .ensures) (c .before .enum-told3 .given .1)
+    c .kept .ensures ∙ sweeping-fatal _ _ _ _ (c .before .before .before .before .before .before .before .before .loop .inv) _
+    (c .before .before .before .before .before .before .before .sweep-frame .ensures) (c .before .enum-told3 .given .1)
 
 enum-known-turn : tie.Need-enum-known-turn Inv-loop μ-loop
 enum-known-turn c = search needs
@@ -67,7 +73,10 @@ kept-requires-2 c κs = search needs
 
 returns-3 : tie.Need-returns-3 Inv-loop μ-loop
 returns-3 c =
-    c .kept2 .ensures ∙ sweeping-refused _ _ _ _ (c .before .before .before .before .before .before .before .before .loop .inv) _ (c .before .before .before .before .before .before .before .sweep-frame .ensures) _ (c .before .before .turn .given .1)
+    c .kept2 .ensures ∙ sweeping-refused _ _ _ _
+    (c .before .before .before .before .before .before .before .before .before .loop .inv) _
+    (c .before .before .before .before .before .before .before .before .sweep-frame .ensures) _
+    (c .before .before .turn .given .1)
 
 pub sweep-spec : {M : Type 1} → statement M
 sweep-spec =

@@ -45,7 +45,9 @@ returns-3 : tie.Need-returns-3
 returns-3 c =
     let x = c .before .before .before .before .before .before .before .before .before .args in
     let m = lent (x .section .now) (x .section-base) (x .stack .now) (x .stack-base) .regions in
-    sweep-row (x .arch) m (x .unwinding) (x .answer) (c .by-row .result) _ (c .before .before .before .before .before .answer2 .given .1) _ (c .before .before .pc .ensures) (c .before .row-of .result) (c .before .row-of .ensures) (c .by-row .ensures)
+    sweep-row (x .arch) m (x .unwinding) (x .answer) (c .by-row .result) _
+    (c .before .before .before .before .before .answer2 .given .1) _ (c .before .before .pc .ensures) (c .before .row-of .result)
+    (c .before .row-of .ensures) (c .by-row .ensures)
 
 pub sweep-row-spec : {M : Type 1} → statement M
 sweep-row-spec =

@@ -3,10 +3,11 @@
 #[allow(dead_code)]
 #[path = "../src/raw.rs"]
 mod raw;
+mod stacks;
 mod tables;
 mod timing;
 
-use morthwyga::{PC_COLUMN, Record, Regs, State};
+use morthwyga::{PC_COLUMN, Record, Regs, State, Unwinding};
 use ps_unwind::abi::{Cursor, UA_CLEANUP_PHASE};
 use ps_unwind::arch;
 use ps_unwind::eko::{self, HOST};
@@ -34,6 +35,9 @@ fn main() {
     [4, 256].into_iter().for_each(handler2);
     personality();
     personality2();
+    for version in [1, 2] {
+        [10, 100, 1_000].into_iter().for_each(|frames| throws::all(version, frames));
+    }
 }
 
 fn address(bytes: &[u8]) -> usize {
@@ -54,6 +58,8 @@ macro_rules! lend {
         }
     }};
 }
+
+mod throws;
 
 /// pcs in random functions, one in eight past the last.
 fn lookup(records: usize) {

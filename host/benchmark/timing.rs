@@ -16,6 +16,17 @@ const NANOSECONDS: f64 = 5e5;
 /// the name does not begin with.
 pub fn measure<R, O>(
     name: &str,
+    rust: impl FnMut(usize) -> R,
+    ours: impl FnMut(usize) -> O,
+    same: impl Fn(&R, &O) -> bool,
+) {
+    measure_over(INPUTS, name, rust, ours, same);
+}
+
+/// The same over so many inputs; at least one call is timed at once.
+pub fn measure_over<R, O>(
+    inputs: usize,
+    name: &str,
     mut rust: impl FnMut(usize) -> R,
     mut ours: impl FnMut(usize) -> O,
     same: impl Fn(&R, &O) -> bool,
@@ -23,23 +34,23 @@ pub fn measure<R, O>(
     if std::env::args().nth(1).is_some_and(|word| !name.starts_with(&word)) {
         return;
     }
-    for i in 0..INPUTS {
+    for i in 0..inputs {
         assert!(same(&rust(i), &ours(i)), "{name}: the answers to input {i} differ");
     }
-    let calls = (NANOSECONDS / round(&mut ours, 0, INPUTS)) as usize;
+    let calls = 1.max((NANOSECONDS / round(&mut ours, 0, inputs, inputs)) as usize);
     let (mut theirs, mut own) = (f64::MAX, f64::MAX);
     for first in (0..ROUNDS).map(|number| number * calls) {
-        theirs = theirs.min(round(&mut rust, first, calls));
-        own = own.min(round(&mut ours, first, calls));
+        theirs = theirs.min(round(&mut rust, first, calls, inputs));
+        own = own.min(round(&mut ours, first, calls, inputs));
     }
     println!("{name:<46} {theirs:9.1} ns {own:9.1} ns {:6.2}x", theirs / own);
 }
 
 /// The nanoseconds of a call, over so many from the first on.
-fn round<T>(call: &mut impl FnMut(usize) -> T, first: usize, calls: usize) -> f64 {
+fn round<T>(call: &mut impl FnMut(usize) -> T, first: usize, calls: usize, inputs: usize) -> f64 {
     let start = Instant::now();
     for i in first..first + calls {
-        black_box(&call(black_box(i % INPUTS)));
+        black_box(&call(black_box(i % inputs)));
     }
     start.elapsed().as_nanos() as f64 / calls as f64
 }

@@ -10,6 +10,29 @@
 //! let memory = Memory { section: &[], section_base: 0x1000, stack: &[], stack_base: 0x2000 };
 //! assert_eq!(memory.lookup(Arch::X86_64, 0x1234), Ok(None));
 //! ```
+//!
+//! A throw is [`Memory::raise`], and after it [`Memory::resume`] until it has finished: each gives the next landing.
+//!
+//! ```
+//! use morthwyga::{Arch, Memory, Raised, Regs, Resumed};
+//!
+//! // One function, 5000 to 5010 hexadecimal. Its call that returns to 5005 has a catch with the pad 5008.
+//! let section = [
+//!     0x45, 0x4b, 0x55, 0x57, 2, 2, 1, 0, 1, 0, 0, 0, 32, 0, 0, 0, // a chunk of version 2 for x86-64 with 1 record, 32 bytes
+//!     0xf0, 0x3f, 0, 0, 16, 0, 0, 0, 28, 0, 0, 0x80, // its start from here, its length, its program at 28 with rows
+//!     0x00, 0x01, 0x05, 0x21, // END; 1 row: offset 5, pad 8, catch
+//! ];
+//! // On the stack its return address, 0: nobody called it.
+//! let memory = Memory { section: &section, section_base: 0x1000, stack: &[0; 8], stack_base: 0x2000 };
+//! let mut regs = Regs { r: [0; 41] };
+//! regs.r[7] = 0x2000;
+//!
+//! let (raised, unwinding) = memory.raise(Arch::X86_64, regs, 0x5005, false, 77);
+//! assert_eq!(raised, Ok(Raised::Chosen { number: 0, sp: 0x2000 }));
+//! let Ok(Resumed::Landing { number: 0, regs, next }) = memory.resume(Arch::X86_64, unwinding) else { panic!() };
+//! assert_eq!((regs.pc(), regs.r[0]), (0x5008, 77));
+//! assert_eq!(memory.resume(Arch::X86_64, next), Ok(Resumed::Finished));
+//! ```
 mod raw;
 
 /// An architecture, by the number that an EKO section names it with.
@@ -270,6 +293,9 @@ macro_rules! lend {
         }
     }};
 }
+
+mod unwinding;
+pub use unwinding::{Frame, Raised, Resumed, Unwinding};
 
 impl Memory<'_> {
     /// The record of the function that pc lies in.

@@ -1,5 +1,5 @@
 //! The C interface of the proved library, as `crates/capi` declares it. A slice is a pointer and a length.
-use crate::{Record, Regs, State};
+use crate::{Record, Regs, State, Unwinding};
 
 #[repr(C)]
 pub struct Number {
@@ -53,6 +53,33 @@ pub struct Decided {
     pub regs: Regs,
 }
 
+#[repr(C)]
+pub struct Stepped {
+    pub status: u32,
+    pub function: Record,
+    pub number: usize,
+    pub interrupted: bool,
+    pub regs: Regs,
+}
+
+#[repr(C)]
+pub struct Raised {
+    pub status: u32,
+    pub reason: u32,
+    pub number: usize,
+    pub sp: usize,
+    pub unwinding: Unwinding,
+}
+
+#[repr(C)]
+pub struct Resumed {
+    pub status: u32,
+    pub reason: u32,
+    pub number: usize,
+    pub regs: Regs,
+    pub unwinding: Unwinding,
+}
+
 unsafe extern "C" {
     pub safe fn eko_strip_pac(arch: u8, address: usize) -> Number;
     pub safe fn eko_get(arch: u8, regs: Regs, reg: u16) -> Number;
@@ -104,4 +131,19 @@ unsafe extern "C" {
         stack: *const u8, stack_len: usize, stack_base: usize,
         arch: u8, cleanup: bool, exception: usize, interrupted: bool, function: Record, regs: Regs,
     ) -> Decided;
+    pub fn eko_next_frame(
+        section: *const u8, section_len: usize, section_base: usize,
+        stack: *const u8, stack_len: usize, stack_base: usize,
+        arch: u8, number: usize, interrupted: bool, regs: Regs,
+    ) -> Stepped;
+    pub fn eko_raise(
+        section: *const u8, section_len: usize, section_base: usize,
+        stack: *const u8, stack_len: usize, stack_base: usize,
+        arch: u8, regs: Regs, pc: usize, interrupted: bool, exception: usize,
+    ) -> Raised;
+    pub fn eko_resume(
+        section: *const u8, section_len: usize, section_base: usize,
+        stack: *const u8, stack_len: usize, stack_base: usize,
+        arch: u8, unwinding: Unwinding,
+    ) -> Resumed;
 }

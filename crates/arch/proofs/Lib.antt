@@ -2,3 +2,4 @@
 pub mod Arch
 pub mod File
 pub mod Known
+pub mod Preserved

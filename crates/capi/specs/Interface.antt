@@ -23,6 +23,17 @@ use Rattle.personality.specs.declared.Phase.{Phase}
 use Rattle.personality.specs.declared.Phase.the-variants.{Search, Cleanup}
 use Rattle.lookup.specs.declared.Record.{Record}
 use Rattle.lookup.specs.Lookup as Lookup
+use Rattle.model.specs.declared.Unwinding.{Unwinding}
+use Rattle.unwind.specs.declared.Walked.{Walked}
+use Rattle.unwind.specs.declared.Walked.the-variants as walked
+use Rattle.unwind.specs.declared.Stepped as unwind-step
+use Rattle.unwind.specs.declared.RaiseAnswer.{RaiseAnswer}
+use Rattle.unwind.specs.declared.RaiseAnswer.the-variants as raise
+use Rattle.unwind.specs.declared.Raised as unwind-raise
+use Rattle.unwind.specs.declared.ResumeAnswer.{ResumeAnswer}
+use Rattle.unwind.specs.declared.ResumeAnswer.the-variants as resume
+use Rattle.unwind.specs.declared.Resumed as unwind-resume
+use Rattle.personality.specs.Reason.{fatalPhase1, fatalPhase2, handlerFound, installContext}
 use Rattle.leb.specs.Reader as Reader
 use Rattle.rows.specs.Row as Row
 use Rattle.rows.specs.Row.{Pad}
@@ -34,6 +45,9 @@ use Rattle.capi.specs.declared.Changed.{Changed}
 use Rattle.capi.specs.declared.Ended.{Ended}
 use Rattle.capi.specs.declared.Landing.{Landing}
 use Rattle.capi.specs.declared.Decided.{Decided}
+use Rattle.capi.specs.declared.Stepped.{Stepped}
+use Rattle.capi.specs.declared.Raised.{Raised}
+use Rattle.capi.specs.declared.Resumed.{Resumed}
 
 -- a number
 abbrev pub number : Outcome ℕ → Number
@@ -49,13 +63,13 @@ fileStatus (arch-case.Refused n) = n
 abbrev pub file : arch.Next → File
 file n = record { status = fileStatus (n .status); regs = n .regs }
 
+-- what stands for a record where there is none
+abbrev pub noRecord : Record
+noRecord = record { start = 0; end = 0; frame = 0; handlers = 0; program = 0; limit = 0; version = 0 }
+
 -- an answer without a record
 abbrev pub recordless : ℕ → Function
-recordless n =
-    record {
-      status = n;
-      found = record { start = 0; end = 0; frame = 0; handlers = 0; program = 0; limit = 0; version = 0 };
-    }
+recordless n = record { status = n; found = noRecord }
 
 -- the record of a pc
 abbrev pub function : Outcome (Option Lookup.Found) → Function
@@ -112,3 +126,42 @@ decidedBy regs (code.Refused n) = record { status = n; reason = 0; regs = regs }
 
 abbrev pub decided : personality.Decided → Decided
 decided d = decidedBy (d .regs) (d .code)
+
+-- a frame step, by its answer: past the frame its record; a status without one for the end and a refusal
+abbrev pub unstepped : ℕ → ℕ → Bool → Regs → Stepped
+unstepped status number interrupted regs =
+    record { status = status; function = noRecord; number = number; interrupted = interrupted; regs = regs }
+
+abbrev pub steppedBy : ℕ → Bool → Regs → Walked → Stepped
+steppedBy number interrupted regs (walked.Past r) =
+    record { status = 0; function = r; number = number; interrupted = interrupted; regs = regs }
+steppedBy number interrupted regs walked.End = unstepped 1 number interrupted regs
+steppedBy number interrupted regs (walked.Refused n) = unstepped n number interrupted regs
+
+abbrev pub stepped : unwind-step.Stepped → Stepped
+stepped s = steppedBy (s .number) (s .interrupted) (s .regs) (s .answer)
+
+-- the reason of a search that comes to the end of the stack
+abbrev pub endOfStack : ℕ
+endOfStack = 5
+
+-- a throw, by its answer: reason 6 with the chosen frame's number and sp, 3 or 5
+abbrev pub raisedBy : Unwinding → RaiseAnswer → Raised
+raisedBy u (raise.Chosen number sp) = record { status = 0; reason = handlerFound; number = number; sp = sp; unwinding = u }
+raisedBy u raise.Stopped = record { status = 0; reason = fatalPhase1; number = 0; sp = 0; unwinding = u }
+raisedBy u raise.Ended = record { status = 0; reason = endOfStack; number = 0; sp = 0; unwinding = u }
+raisedBy u (raise.Refused n) = record { status = n; reason = 0; number = 0; sp = 0; unwinding = u }
+
+abbrev pub raised : unwind-raise.Raised → Raised
+raised r = raisedBy (r .unwinding) (r .answer)
+
+-- a sweep call, by its answer: reason 7 with the landing's frame number, or 2; none where it is finished
+abbrev pub resumedBy : Regs → Unwinding → ResumeAnswer → Resumed
+resumedBy regs u (resume.Install number) =
+    record { status = 0; reason = installContext; number = number; regs = regs; unwinding = u }
+resumedBy regs u resume.Fatal = record { status = 0; reason = fatalPhase2; number = 0; regs = regs; unwinding = u }
+resumedBy regs u resume.Finished = record { status = 1; reason = 0; number = 0; regs = regs; unwinding = u }
+resumedBy regs u (resume.Refused n) = record { status = n; reason = 0; number = 0; regs = regs; unwinding = u }
+
+abbrev pub resumed : unwind-resume.Resumed → Resumed
+resumed r = resumedBy (r .regs) (r .unwinding) (r .answer)

@@ -19,6 +19,9 @@ ghost use Rattle.rows.specs.Handler as Handler;
 ghost use Rattle.rows.specs.Handler2 as Handler2;
 ghost use Rattle.personality.specs.Reason as Reason;
 ghost use Rattle.personality.specs.Answers as PersonalityAnswers;
+ghost use Rattle.model.specs.Unwinding as Spec;
+ghost use Rattle.unwind.specs.Answers as UnwindAnswers;
+ghost use Rattle.unwind.specs.Answers.{frameAt};
 ghost use Rattle.capi.specs.Interface as Interface;
 use arch::Regs;
 use failure::BAD_EKO_HEADER;
@@ -29,18 +32,29 @@ use leb::read_uleb;
 use lookup::Lookup;
 use lookup::Record;
 use lookup::lookup_arch;
+use model::Unwinding;
 use personality::Code;
 use personality::Phase;
+use personality::URC_FATAL_PHASE1_ERROR;
+use personality::URC_FATAL_PHASE2_ERROR;
+use personality::URC_HANDLER_FOUND;
+use personality::URC_INSTALL_CONTEXT;
 use rows::Row;
 use rows::handler::handler;
 use rows::handler2::handler2;
 use state::Slot;
 use state::State;
+use unwind::RaiseAnswer;
+use unwind::ResumeAnswer;
+use unwind::Walked;
 
 // The status of an answer with values, and of none.
 pub const ANSWERED: u32 = 0;
 
 pub const NONE: u32 = 1;
+
+// The reason of a throw that no frame catches.
+pub const URC_END_OF_STACK: u32 = 5;
 
 // A number.
 #[repr(C)]
@@ -100,6 +114,37 @@ pub struct Decided {
     pub status: u32,
     pub reason: u32,
     pub regs: Regs,
+}
+
+// A frame step: past the frame its record, and its caller's number and file; else the frame's own.
+#[repr(C)]
+pub struct Stepped {
+    pub status: u32,
+    pub function: Record,
+    pub number: usize,
+    pub interrupted: bool,
+    pub regs: Regs,
+}
+
+// A throw: the reason 6 with the chosen frame's number and sp, 3 or 5; and the unwinding at frame 0.
+#[repr(C)]
+pub struct Raised {
+    pub status: u32,
+    pub reason: u32,
+    pub number: usize,
+    pub sp: usize,
+    pub unwinding: Unwinding,
+}
+
+// A sweep call: the reason 7 with the landing's frame number and file, or 2; none where it is finished. The unwinding is past
+// the frame that landed, else the one that came in.
+#[repr(C)]
+pub struct Resumed {
+    pub status: u32,
+    pub reason: u32,
+    pub number: usize,
+    pub regs: Regs,
+    pub unwinding: Unwinding,
 }
 
 // A number.
@@ -309,6 +354,123 @@ fn to_decided(d: personality::Decided) -> Decided
             status: n,
             reason: 0,
             regs,
+        },
+    }
+}
+
+// A frame step without a record.
+fn unstepped(status: u32, number: usize, interrupted: bool, regs: Regs) -> Stepped
+    ensures { λ r. ⌜ r ≡ Interface.unstepped status number interrupted regs ⌝ }
+{
+    Stepped {
+        status,
+        function: Record {
+            start: 0,
+            end: 0,
+            frame: 0,
+            handlers: 0,
+            program: 0,
+            limit: 0,
+            version: 0,
+        },
+        number,
+        interrupted,
+        regs,
+    }
+}
+
+// A frame step.
+fn to_stepped(s: unwind::Stepped) -> Stepped
+    ensures { λ r. ⌜ r ≡ Interface.stepped s ⌝ }
+{
+    let regs = s.regs;
+    let answer = s.answer;
+    match answer {
+        Walked::Past(function) => Stepped {
+            status: ANSWERED,
+            function,
+            number: s.number,
+            interrupted: s.interrupted,
+            regs,
+        },
+        Walked::End => unstepped(NONE, s.number, s.interrupted, regs),
+        Walked::Refused(n) => unstepped(n, s.number, s.interrupted, regs),
+    }
+}
+
+// A throw.
+fn to_raised(raised: unwind::Raised) -> Raised
+    ensures { λ r. ⌜ r ≡ Interface.raised raised ⌝ }
+{
+    let unwinding = raised.unwinding;
+    let answer = raised.answer;
+    match answer {
+        RaiseAnswer::Chosen(number, sp) => Raised {
+            status: ANSWERED,
+            reason: URC_HANDLER_FOUND,
+            number,
+            sp,
+            unwinding,
+        },
+        RaiseAnswer::Stopped => Raised {
+            status: ANSWERED,
+            reason: URC_FATAL_PHASE1_ERROR,
+            number: 0,
+            sp: 0,
+            unwinding,
+        },
+        RaiseAnswer::Ended => Raised {
+            status: ANSWERED,
+            reason: URC_END_OF_STACK,
+            number: 0,
+            sp: 0,
+            unwinding,
+        },
+        RaiseAnswer::Refused(n) => Raised {
+            status: n,
+            reason: 0,
+            number: 0,
+            sp: 0,
+            unwinding,
+        },
+    }
+}
+
+// A sweep call.
+fn to_resumed(resumed: unwind::Resumed) -> Resumed
+    ensures { λ r. ⌜ r ≡ Interface.resumed resumed ⌝ }
+{
+    let regs = resumed.regs;
+    let unwinding = resumed.unwinding;
+    let answer = resumed.answer;
+    match answer {
+        ResumeAnswer::Install(number) => Resumed {
+            status: ANSWERED,
+            reason: URC_INSTALL_CONTEXT,
+            number,
+            regs,
+            unwinding,
+        },
+        ResumeAnswer::Fatal => Resumed {
+            status: ANSWERED,
+            reason: URC_FATAL_PHASE2_ERROR,
+            number: 0,
+            regs,
+            unwinding,
+        },
+        ResumeAnswer::Finished => Resumed {
+            status: NONE,
+            reason: 0,
+            number: 0,
+            regs,
+            unwinding,
+        },
+        ResumeAnswer::Refused(n) => Resumed {
+            status: n,
+            reason: 0,
+            number: 0,
+            regs,
+            unwinding,
         },
     }
 }
@@ -576,4 +738,85 @@ pub extern "C" fn eko_personality<'a>(
         function,
         regs,
     ))
+}
+
+// The frame step: a frame's record and its caller.
+#[no_mangle]
+pub extern "C" fn eko_next_frame<'a>(
+    section: &'a [u8],
+    section_base: usize,
+    stack: &'a [u8],
+    stack_base: usize,
+    arch: u8,
+    number: usize,
+    interrupted: bool,
+    regs: Regs,
+) -> Stepped
+    ensures { λ r. ⌜
+        r ≡ Interface.stepped (UnwindAnswers.stepped (frameAt number interrupted regs)
+        (Spec.nextFrame (lent (now (section .entry)) «section_base» (now (stack .entry)) «stack_base»)
+        arch (frameAt number interrupted regs)))
+        ⌝ }
+{
+    to_stepped(unwind::next_frame(
+        section,
+        section_base,
+        stack,
+        stack_base,
+        arch,
+        number,
+        interrupted,
+        regs,
+    ))
+}
+
+// raise (document 01: throw).
+#[no_mangle]
+pub extern "C" fn eko_raise<'a>(
+    section: &'a [u8],
+    section_base: usize,
+    stack: &'a [u8],
+    stack_base: usize,
+    arch: u8,
+    regs: Regs,
+    pc: usize,
+    interrupted: bool,
+    exception: usize,
+) -> Raised
+    ensures { λ r. ⌜
+        r ≡ Interface.raised (UnwindAnswers.raisedBy (Spec.frame0 (regs .r) pc interrupted) exception
+        (Spec.raise (lent (now (section .entry)) «section_base» (now (stack .entry)) «stack_base»)
+        arch (regs .r) pc interrupted))
+        ⌝ }
+{
+    to_raised(unwind::raise(
+        section,
+        section_base,
+        stack,
+        stack_base,
+        arch,
+        regs,
+        pc,
+        interrupted,
+        exception,
+    ))
+}
+
+// resume (document 01: sweep).
+#[no_mangle]
+pub extern "C" fn eko_resume<'a>(
+    section: &'a [u8],
+    section_base: usize,
+    stack: &'a [u8],
+    stack_base: usize,
+    arch: u8,
+    unwinding: Unwinding,
+) -> Resumed
+    ensures { λ r. ⌜
+        r ≡ Interface.resumed (UnwindAnswers.resumedBy unwinding
+        (Spec.resume (lent (now (section .entry)) «section_base» (now (stack .entry)) «stack_base»)
+        arch unwinding))
+        ⌝ }
+{
+    to_resumed(unwind::resume(section, section_base, stack, stack_base, arch, unwinding))
 }

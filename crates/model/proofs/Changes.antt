@@ -17,7 +17,7 @@ use Rattle.frame.specs.Layout.{Pair}
 use Rattle.model.specs.FrameStep.{maxFrames}
 use Rattle.model.specs.Machine.{Open, Machine, column, isRegister, value}
 use Rattle.model.specs.Described.{isSpilled}
-use Rattle.model.specs.Event.{changeAllowed, reloadAllowed, unspilled, reloading, withRegisters, withFrames, change, reload, move}
+use Rattle.model.specs.Event.{notSpNorPc, changeAllowed, reloadAllowed, unspilled, reloading, withRegisters, withFrames, change, reload, move}
 use Rattle.model.proofs.Chain.{Kept, AllLive, Inner, Inv}
 use Rattle.model.proofs.Guard.{each}
 use Rattle.model.proofs.Allowed.{if-allowed, if-open}
@@ -115,12 +115,12 @@ module _ (m : Machine) (f : Open) (fs : List Open) (here : m .frames ≡ f ∷ f
 -- what the rules of a change give
 change-rules :
     (m : Machine) (f : Open) (reg v : ℕ) → changeAllowed m f reg v ≡ true → (v < 2 ^ 64) × (reg ≡ numbers (m .arch) .sp → ⊥)
-unfolding changeAllowed
+unfolding changeAllowed notSpNorPc
 change-rules m f reg v g =
     let a : Arch = numbers (m .arch) in
     let spilled : Bool = not (oneOf reg (a .preserved)) || isSpilled (f .spilled) reg in
-    let rest : List Bool = not (eqb reg (a .sp)) ∷ not (eqb (column a reg) pcColumn) ∷ spilled ∷ [] in
-    let (_, (small, (notSp, _))) = each (isRegister a reg) (ltb v (2 ^ 64) ∷ rest) g in
+    let (_, (neither, (_, (small, _)))) = each spilled (notSpNorPc a reg ∷ isRegister a reg ∷ ltb v (2 ^ 64) ∷ []) g in
+    let (notSp, _) = both (not (eqb reg (a .sp))) (not (eqb (column a reg) pcColumn)) neither in
     (ltb-true v (2 ^ 64) small, eqb-false reg (a .sp) (not-true (eqb reg (a .sp)) notSp))
 
 -- a change keeps the invariant

@@ -1,7 +1,7 @@
 -- A call keeps the invariant. Assumes nothing.
 use mathlib.Core.Path.{_≡_, refl, sym, _∙_, ap, subst}
 use mathlib.Core.Bool.{Bool, true, false, not, _||_}
-use mathlib.Core.List.{List, [], _∷_, List·Memᴰ, List·Memᴰ·eq-of-singleton, List·Memᴰ·not-nil}
+use mathlib.Core.List.{List, [], _∷_, List·Memᴰ, List·Memᴰ·eq-of-singleton, List·Memᴰ·not-nil, _++_}
 use mathlib.Core.Logic.{_⊎_, inl, inr}
 use mathlib.Core.Option.{Option, none, some}
 use Prim.Native.Nat.{ℕ, _-_, _^_, _<_}
@@ -24,7 +24,7 @@ use Rattle.frame.specs.Layout.{Pair}
 use Rattle.model.specs.FrameStep.{maxFrames}
 use Rattle.model.specs.Machine.{Open, Machine, column, isRegister, address, inside, clear, written}
 use Rattle.model.specs.Described.{isSpilled, described}
-use Rattle.model.specs.Event.{pushes, keptBy, opening, returns, leaves, callAllowed, entered, call}
+use Rattle.model.specs.Event.{pushes, keptBy, newFrame, returns, callerDescribed, callAllowed, entered, call}
 use Rattle.model.proofs.Chain.{Kept, Slot, Live, AllLive, Chain, Inner, Inv}
 use Rattle.model.proofs.Files.{pointers}
 use Rattle.model.proofs.Guard.{each}
@@ -35,7 +35,7 @@ use Rattle.model.proofs.Slots.{written-holds, written-live, written-ope
 
 -- the callers of the frame that a call opens are a chain from its kept file on
 callers :
-    (m : Machine) (kept : List ℕ) (ret : ℕ) → pc kept ≡ ret → (fs : List Open) → returns fs ret ≡ true → leaves m fs kept ret ≡ true →
+    (m : Machine) (kept : List ℕ) (ret : ℕ) → pc kept ≡ ret → (fs : List Open) → returns fs ret ≡ true → callerDescribed m fs kept ret ≡ true →
     Inner (m .arch) (m .section) (m .registers) fs → Chain (m .arch) (m .section) false false kept fs
 callers m kept ret is [] back out inner = is ∙ eqb-true ret 0 back
 callers m kept ret is (f ∷ fs) back out inner =
@@ -84,10 +84,10 @@ module _ (m : Machine) (e : Entry) (ret : ℕ) (i : Inv m) where
     small = omega (arith, fits, address-bits (m .arch))
 
     -- the frame that a call opens
-    opening-kept :
-        e ∈ records (m .section .bytes) (m .section .base) (m .arch) → 0 < sp a file → Kept (m .arch) (m .section) (opening a file e ret)
-    unfolding opening isRegister
-    opening-kept isRecord above =
+    new-kept :
+        e ∈ records (m .section .bytes) (m .section .base) (m .arch) → 0 < sp a file → Kept (m .arch) (m .section) (newFrame a file e ret)
+    unfolding newFrame isRegister
+    new-kept isRecord above =
         let kept = kept-good (m .arch) file good ret small in
         let back = kept-pc (m .arch) file good ret small in
         let known = lt-ltb (column a (a .ra)) columns (pointers (m .arch) .raBelow) in
@@ -109,20 +109,20 @@ module _ (m : Machine) (e : Entry) (ret : ℕ) (i : Inv m) where
 
     module _ (within : pushes a ≡ true → inside (m .stack) top ≡ true) where
       -- its slot holds ret
-      opening-live : Live a (if pushes a then written (m .stack) top ret else m .stack) (opening a file e ret)
-      unfolding opening
-      opening-live p j =
+      new-live : Live a (if pushes a then written (m .stack) top ret else m .stack) (newFrame a file e ret)
+      unfolding newFrame
+      new-live p j =
           let (push, is) = pushed-pair (pushes a) pair p j in
           let value = sym (kept-ra (m .arch) file good ret small) in
-          let there = written-holds a (m .stack) (opening a file e ret) pair ret (within push) small value in
-          subst (λ (t : Bool). Slot a (if t then written (m .stack) top ret else m .stack) (opening a file e ret) p) (sym push)
-          (subst (Slot a (written (m .stack) top ret) (opening a file e ret)) (sym is) there)
+          let there = written-holds a (m .stack) (newFrame a file e ret) pair ret (within push) small value in
+          subst (λ (t : Bool). Slot a (if t then written (m .stack) top ret else m .stack) (newFrame a file e ret) p) (sym push)
+          (subst (Slot a (written (m .stack) top ret) (newFrame a file e ret)) (sym is) there)
 
       -- the invariant after a call
       entered-keeps :
           e ∈ records (m .section .bytes) (m .section .base) (m .arch) → 0 < sp a file → (pushes a ≡ true → clear top (m .frames) ≡ true) →
           length (m .frames) < maxFrames → Chain (m .arch) (m .section) false false (keptBy a file ret) (m .frames) → Inv (entered m e ret)
-      unfolding entered opening
+      unfolding entered newFrame
       entered-keeps isRecord above free few chain =
           let next = calling-good (m .arch) file good ret small in
           record {
@@ -135,11 +135,11 @@ module _ (m : Machine) (e : Entry) (ret : ℕ) (i : Inv m) where
             values = next .below;
             few = omega arith;
             live = (
-              opening-live,
+              new-live,
               by-test (λ (s : Region). AllLive a s (m .frames)) (pushes a) (written (m .stack) top ret) (m .stack)
                   (λ p. written-live a (m .stack) top ret (within p) (m .frames) (free p) (i .live)) (λ p. i .live),
             );
-            inner = (opening-kept isRecord above, (calling-sp (m .arch) file good ret, chain));
+            inner = (new-kept isRecord above, (calling-sp (m .arch) file good ret, chain));
           }
 
 -- an allowed call
@@ -151,10 +151,10 @@ call-allowed m e ret isRecord i g =
     let a : Arch = numbers (m .arch) in
     let top : ℕ = address (sp a (m .registers)) 1 in
     let kept : List ℕ = keptBy a (m .registers) ret in
-    let caller : List Bool = leaves m (m .frames) kept ret ∷ ltb (length (m .frames)) maxFrames ∷ [] in
-    let room : List Bool = (not (pushes a) || inside (m .stack) top) ∷ (not (pushes a) || clear top (m .frames)) ∷ caller in
-    let rest : List Bool = ltb 0 (sp a (m .registers)) ∷ ltb ret (2 ^ a .addressBits) ∷ room in
-    let (back, (above, (fits, (within, (free, (out, (few, _))))))) = each (returns (m .frames) ret) rest g in
+    let caller : List Bool = callerDescribed m (m .frames) kept ret ∷ ltb (length (m .frames)) maxFrames ∷ [] in
+    let room : List Bool = (not (pushes a) || inside (m .stack) top) ∷ (not (pushes a) || clear top (m .frames)) ∷ [] in
+    let rest : List Bool = ltb 0 (sp a (m .registers)) ∷ room ++ (ltb ret (2 ^ a .addressBits) ∷ caller) in
+    let (back, (above, (within, (free, (fits, (out, (few, _))))))) = each (returns (m .frames) ret) rest g in
     let below = ltb-true ret (2 ^ a .addressBits) fits in
     let is : pc kept ≡ ret = kept-pc (m .arch) (m .registers) (good m e ret i) ret (small m e ret i below) in
     entered-keeps m e ret i below (asked (pushes a) (inside (m .stack) top) within) isRecord

@@ -14,9 +14,9 @@ use Rattle.arch.specs.File.{sp, pc, setPc}
 use Rattle.personality.proofs.Reasons.{install}
 use Rattle.model.specs.FrameStep.{Frame}
 use Rattle.model.specs.Cleanup as Cleanup
-use Rattle.model.specs.Cleanup.{Swept, land}
+use Rattle.model.specs.Cleanup.{Cleaned, installPad}
 use Rattle.model.specs.Machine.{Open, value}
-use Rattle.model.specs.Expected.{Landing, Given, Landed, landingOf}
+use Rattle.model.specs.Expected.{LandingPad, Given, Installed, padOf}
 use Rattle.model.specs.Demand.{given}
 use Rattle.model.proofs.Chain.{Agrees}
 use Rattle.model.proofs.Files.{pad-file}
@@ -26,8 +26,8 @@ use Rattle.model.proofs.Walks.{stood}
 -- the landing of a frame
 pub record Lands (arch exception n : ℕ) (interrupted : Bool) (file file′ : List ℕ) (f : Open) (pad : ℕ) (next : Frame) : Type 0 where
   pub there : List ℕ
-  pub is : land (numbers arch) exception (frame n interrupted file′) (f .entry .function) pad next ≡ Answer (Cleanup.Landing n there next)
-  pub same : given (numbers arch) (Cleanup.Landing n there next) ≡ Landed (landingOf (numbers arch) n (stood interrupted file f) pad)
+  pub is : installPad (numbers arch) exception (frame n interrupted file′) (f .entry .function) pad next ≡ Answer (Cleanup.Install n there next)
+  pub same : given (numbers arch) (Cleanup.Install n there next) ≡ Installed (padOf (numbers arch) n (stood interrupted file f) pad)
 
 -- files with the same values of some registers
 map-same : (a : Arch) (g file : List ℕ) (all regs : List ℕ) →
@@ -48,7 +48,7 @@ map-same a g file all (reg ∷ regs) h sub =
 
 pub lands : (arch exception n : ℕ) (interrupted : Bool) (file file′ : List ℕ) (f : Open) (pad : ℕ) (next : Frame) →
     Agrees (numbers arch) file′ file → Lands arch exception n interrupted file file′ f pad next
-unfolding land landingOf
+unfolding installPad padOf
 lands arch exception n interrupted file file′ f pad next agrees =
     let g = setPc (ListN.set (ListN.set file′ 0 exception) 1 0) (sum (f .entry .function .start) pad) in
     let h = pad-file arch exception (sum (f .entry .function .start) pad) file′ file agrees in

@@ -28,5 +28,15 @@ pub mod Stands
 pub mod Walks
 pub mod Searching
 pub mod Landings
-pub mod Sweeping
+pub mod Cleaning
 pub mod Calls
+pub mod FirstRow
+pub mod Exactly
+pub mod ValidRows
+pub mod Corollaries
+pub mod Promised
+pub mod Rules
+pub mod Runs
+pub mod RunsAarch64
+pub mod RunsX86
+pub mod RunsHold

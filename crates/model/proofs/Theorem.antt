@@ -20,10 +20,10 @@ use Rattle.model.specs.Unwinding.{frame0, raise, raised}
 use Rattle.model.specs.Machine.{Open, Machine, Fresh}
 use Rattle.model.specs.Described.{described}
 use Rattle.model.specs.Event.{Event, steps}
-use Rattle.model.specs.Throw.{Throw, thrown, throwable, throwAllowed, framesAt}
+use Rattle.model.specs.Throw.{Throw, lookedAt, thrown, throwable, throwAllowed, framesAt}
 use Rattle.model.specs.Sound.{Sound}
-use Rattle.model.specs.Expected.{outcome, due, dueBy, landingsFrom, firstOf}
-use Rattle.model.specs.Demand.{SweepCall, Admissible, RegularServed, answers, raisedBy, unwindingOf, EveryLanding, Demand3}
+use Rattle.model.specs.Expected.{outcome, due, dueBy, padsFrom}
+use Rattle.model.specs.Demand.{raisedBy, unwindingOf, EveryLanding, Demand3}
 use Rattle.model.proofs.Chain.{Inner, FrameAt, Chain, Inv, Agrees}
 use Rattle.model.proofs.Guard.{each}
 use Rattle.model.proofs.Files.{pointers}
@@ -33,13 +33,13 @@ use Rattle.model.proofs.Rows.{row-found}
 use Rattle.model.proofs.Stands.{goes, ends}
 use Rattle.model.proofs.Walks.{Walks}
 use Rattle.model.proofs.Searching.{searches}
-use Rattle.model.proofs.Sweeping.{Amid}
+use Rattle.model.proofs.Cleaning.{Amid}
 use Rattle.model.proofs.Steps.{steps-inv}
 use Rattle.model.proofs.Calls.{opened-known, Due, None, Some, calls}
 
 module _ (m : Machine) (i : Inv m) where
   -- tables and memory serve the phases
-  walks : sound (m .section .bytes) (m .section .base) (m .arch) → Walks (m .arch) (m .section) (m .stack)
+  pub walks : sound (m .section .bytes) (m .section .base) (m .arch) → Walks (m .arch) (m .section) (m .stack)
   walks s =
       record {
         goes =
@@ -62,7 +62,7 @@ module _ (m : Machine) (i : Inv m) where
       getD-set-other (m .registers) pcColumn (numbers (m .arch) .sp) (t .pc) 0 (λ e. omega arith)
 
   -- the frames at a throw within the rules
-  thrown-chain : (t : Throw) → throwAllowed m t ≡ true → Chain (m .arch) (m .section) true (t .interrupted) (thrown m t) (m .frames)
+  pub thrown-chain : (t : Throw) → throwAllowed m t ≡ true → Chain (m .arch) (m .section) true (t .interrupted) (thrown m t) (m .frames)
   unfolding throwAllowed
   thrown-chain t = go (m .frames) (i .inner)
     where
@@ -72,8 +72,8 @@ module _ (m : Machine) (i : Inv m) where
       go (f ∷ fs) inner e =
           let (above, (held, (fits, _))) =
           each (ltb 0 (t .pc))
-          (holds (f .entry .function) (lookedUp (t .interrupted) (t .pc))
-          ∷ described (numbers (m .arch)) (m .section) f (thrown m t) (t .interrupted) (lookedUp (t .interrupted) (t .pc)) ∷ [])
+          (holds (f .entry .function) (lookedAt t)
+          ∷ described (numbers (m .arch)) (m .section) f (thrown m t) (t .interrupted) (lookedAt t) ∷ [])
           e in
           let here : pc (thrown m t) ≡ t .pc = thrown-pc t in (
             record {
@@ -103,7 +103,7 @@ module _ (m : Machine) (i : Inv m) where
 
   module _ (t : Throw) (allowed : throwAllowed m t ≡ true) (s : Sound m t) where
     -- the throw
-    throws : raisedBy m t ≡ Answer (outcome m t)
+    pub throws : raisedBy m t ≡ Answer (outcome m t)
     unfolding raisedBy raise search outcome
     throws =
         let few = i .few in
@@ -112,13 +112,13 @@ module _ (m : Machine) (i : Inv m) where
         (omega arith) (omega arith) (λ e. refl) (thrown-chain t allowed) (i .live) (s .frames) (itself t)
 
     -- what is due after it
-    starts : (exception : ℕ) → Due m (unwindingOf m t exception) (due m t)
+    pub starts : (exception : ℕ) → Due m (unwindingOf m t exception) (due m t)
     unfolding unwindingOf due outcome
     starts exception = rw throws (go (outcome m t) refl)
       where
         go : (o : Searched) → outcome m t ≡ o →
             Due m (raised (frame0 (m .registers) (t .pc) (t .interrupted)) exception (Answer o))
-            (dueBy o (landingsFrom (numbers (m .arch)) (m .section) 0 (framesAt m t)))
+            (dueBy o (padsFrom (numbers (m .arch)) (m .section) 0 (framesAt m t)))
         go (Chosen k p) e =
             Some refl
             (Amid true (thrown m t) (m .frames)
@@ -140,16 +140,11 @@ pub every-landing : (m : Machine) → Inv m → (t : Throw) → throwAllowed m t
 every-landing m i t allowed s exception =
     record {
       throws = throws m i t allowed s;
-      served = λ cs a. all cs a .0;
-      lands = λ cs a. all cs a .1;
+      lands =
+          λ cs a.
+          calls m (i .accepted) (i .known) (walks m i (s .tables)) cs (unwindingOf m t exception) (due m t)
+          (starts m i t allowed s exception) a;
     }
-  where
-    all : (cs : List SweepCall) → Admissible m (unwindingOf m t exception) cs →
-        RegularServed m (unwindingOf m t exception) cs
-        × (answers (numbers (m .arch)) cs ≡ firstOf (length (answers (numbers (m .arch)) cs)) (due m t))
-    all cs a =
-        calls m (i .accepted) (i .known) (walks m i (s .tables)) cs (unwindingOf m t exception) (due m t)
-        (starts m i t allowed s exception) a
 
 -- every landing, and no other
 pub demand3 : Demand3

@@ -1,5 +1,5 @@
 -- The cleanup phase: the next landing of an unwinding (document 01, "Walk, throw and call machine": a sweep call).
-use mathlib.Core.Bool.{Bool, not, _&&_}
+use mathlib.Core.Bool.{_&&_}
 use mathlib.Core.List.{List}
 use Prim.Native.Nat.{ℕ, zero, suc}
 use lib.Dec.{eqb, ltb}
@@ -11,7 +11,7 @@ use Rattle.arch.specs.Arch.{Arch, numbers}
 use Rattle.arch.specs.File.{sp, pc}
 use Rattle.lookup.specs.declared.Record.{Record}
 use Rattle.rows.specs.Row.{Found, None, Pad, cleanup, catch}
-use Rattle.personality.specs.Reason.{Reason, rowOf, installed}
+use Rattle.personality.specs.Reason.{rowOf, installed, installContext, fatalPhase2}
 use Rattle.model.specs.FrameStep.{Frame, Step, End, Past, frameStep}
 
 -- the frame that the search chose
@@ -21,49 +21,55 @@ pub record Choice : Type 0 where
 
 -- what a sweep call answers: the landing of a frame, by its number and the file at its pad, with the frame to go on from; or 2; or
 -- finished
-pub data Swept : Type 0 where
-  Landing : (number : ℕ) (file : List ℕ) (next : Frame) → Swept
-  Fatal Finished : Swept
+pub data Cleaned : Type 0 where
+  Install : (number : ℕ) (file : List ℕ) (next : Frame) → Cleaned
+  Fatal Finished : Cleaned
+
+-- document 01's number for each case; finished has none there, and is 0 here
+abbrev pub reasonOf : Cleaned → ℕ
+reasonOf (Install number file next) = installContext
+reasonOf Fatal = fatalPhase2
+reasonOf Finished = 0
 
 -- the landing of a frame; the walk goes on from its caller
-unfoldable pub land : Arch → ℕ → Frame → Record → ℕ → Frame → Outcome Swept
-land a exception f r pad next = do
+unfoldable pub installPad : Arch → ℕ → Frame → Record → ℕ → Frame → Outcome Cleaned
+installPad a exception f r pad next = do
   reason ← installed a exception (r .start) pad (f .file)
-  Answer (Landing (f .number) (reason .file) next)
+  Answer (Install (f .number) (reason .file) next)
 
 -- a row below the chosen number: none goes on, a cleanup lands, a catch is 22, terminate answers 2
-abbrev pub below : Arch → ℕ → Frame → Record → Frame → Outcome Swept → Found → Outcome Swept
+abbrev pub below : Arch → ℕ → Frame → Record → Frame → Outcome Cleaned → Found → Outcome Cleaned
 below a exception f r next rest None = rest
 below a exception f r next rest (Pad pad action) =
-    if eqb action cleanup then land a exception f r pad next
+    if eqb action cleanup then installPad a exception f r pad next
     else if eqb action catch then Refused HandlerFrameMissed
     else Answer Fatal
 
 -- a row at the chosen number: a catch lands if sp is the chosen one; all else is 22
-abbrev pub chosen : Arch → ℕ → Choice → Frame → Record → Frame → Found → Outcome Swept
+abbrev pub chosen : Arch → ℕ → Choice → Frame → Record → Frame → Found → Outcome Cleaned
 chosen a exception c f r next None = Refused HandlerFrameMissed
 chosen a exception c f r next (Pad pad action) =
-    if eqb action catch && eqb (sp a (f .file)) (c .sp) then land a exception f r pad next else Refused HandlerFrameMissed
+    if eqb action catch && eqb (sp a (f .file)) (c .sp) then installPad a exception f r pad next else Refused HandlerFrameMissed
 
 -- a frame's row
-abbrev pub byRow : Arch → ℕ → Choice → Frame → Record → Frame → Outcome Swept → Found → Outcome Swept
+abbrev pub byRow : Arch → ℕ → Choice → Frame → Record → Frame → Outcome Cleaned → Found → Outcome Cleaned
 byRow a exception c f r next rest row =
     if ltb (f .number) (c .number) then below a exception f r next rest row else chosen a exception c f r next row
 
 -- a frame after its step: an end before the chosen one is 22; then its row
-abbrev pub sweepAt : ℕ → Memory → ℕ → Choice → Frame → (Frame → Outcome Swept) → Step → Outcome Swept
-sweepAt arch m exception c f rest End = Refused HandlerFrameMissed
-sweepAt arch m exception c f rest (Past r next) = do
+abbrev pub cleanAt : ℕ → Memory → ℕ → Choice → Frame → (Frame → Outcome Cleaned) → Step → Outcome Cleaned
+cleanAt arch m exception c f rest End = Refused HandlerFrameMissed
+cleanAt arch m exception c f rest (Past r next) = do
   row ← rowOf (numbers arch) m (f .interrupted) r (pc (f .file))
   byRow (numbers arch) exception c f r next (rest next) row
 
--- the next landing from a frame on, over at most n frames
-abbrev pub sweepFrom : ℕ → ℕ → Memory → ℕ → Choice → Frame → Outcome Swept
-sweepFrom zero arch m exception c f = Refused TooManyFrames
-sweepFrom (suc n) arch m exception c f =
-    frameStep arch m f >>= sweepAt arch m exception c f (λ next. sweepFrom n arch m exception c next)
+-- the next landing from a frame on, over at most n frames; from 1,025 on the first line is never met
+abbrev pub cleanFrom : ℕ → ℕ → Memory → ℕ → Choice → Frame → Outcome Cleaned
+cleanFrom zero arch m exception c f = Refused TooManyFrames
+cleanFrom (suc n) arch m exception c f =
+    frameStep arch m f >>= cleanAt arch m exception c f (λ next. cleanFrom n arch m exception c next)
 
 -- the next landing: finished where the chosen frame has landed
-unfoldable pub sweep : ℕ → Memory → ℕ → Choice → Frame → Outcome Swept
-sweep arch m exception c f =
-    if ltb (c .number) (f .number) then Answer Finished else sweepFrom 1025 arch m exception c f
+unfoldable pub clean : ℕ → Memory → ℕ → Choice → Frame → Outcome Cleaned
+clean arch m exception c f =
+    if ltb (c .number) (f .number) then Answer Finished else cleanFrom 1025 arch m exception c f

@@ -1,78 +1,77 @@
 -- Demand 3: every landing, and no other.
-use mathlib.Core.Bool.{Bool, true}
+use mathlib.Core.Bool.{true}
 use mathlib.Core.List.{List, [], _∷_, map}
 use mathlib.Core.Logic.{_⊎_}
 use mathlib.Core.Path.{_≡_}
 use Prim.Native.Nat.{ℕ}
 use lib.ListN.{length}
 use Rattle.failure.specs.Outcome.{Outcome, Refused, Answer}
-use Rattle.mem.specs.Memory.{Region}
+use Rattle.mem.specs.Memory.{Lent}
 use Rattle.arch.specs.Arch.{Arch, numbers}
 use Rattle.arch.specs.File.{sp, pc}
 use Rattle.model.specs.declared.Unwinding.{Unwinding}
 use Rattle.model.specs.Cleanup as Cleanup
-use Rattle.model.specs.Cleanup.{Swept}
-use Rattle.model.specs.Search.{Searched, Chosen, Stopped, Ended}
+use Rattle.model.specs.Cleanup.{Cleaned}
+use Rattle.model.specs.Search.{Searched}
 use Rattle.model.specs.Unwinding.{frame0, raise, raised, resume, resumed}
 use Rattle.model.specs.Machine.{Machine, Fresh, lentBy, value}
 use Rattle.model.specs.Event.{Event, steps}
 use Rattle.model.specs.Throw.{Throw, throwAllowed}
 use Rattle.model.specs.Sound.{Sound}
-use Rattle.model.specs.Expected.{Landing, Given, Landed, Fatal, Finished, outcome, due, firstOf}
+use Rattle.model.specs.Expected.{LandingPad, Given, Installed, Fatal, Finished, outcome, due, firstOf}
 
--- a sweep call: any architecture, any two slices and bases, any unwinding
-pub record SweepCall : Type 0 where
+-- a sweep call: any architecture, anything lent, any unwinding
+pub record ResumeCall : Type 0 where
   pub arch : ℕ
-  pub section : Region
-  pub stack : Region
+  pub lent : Lent
   pub unwinding : Unwinding
 
 -- what a sweep call comes to
-unfoldable pub sweptBy : SweepCall → Outcome Swept
-sweptBy c = resume (record { regions = c .section ∷ c .stack ∷ [] }) (c .arch) (c .unwinding)
+unfoldable pub answerOf : ResumeCall → Outcome Cleaned
+answerOf c = resume (c .lent) (c .arch) (c .unwinding)
 
 -- the regular call: the throw's architecture, the same bytes at the same addresses, and the current unwinding
-abbrev pub regular : Machine → Unwinding → SweepCall
-regular m u = record { arch = m .arch; section = m .section; stack = m .stack; unwinding = u }
+abbrev pub regular : Machine → Unwinding → ResumeCall
+regular m u = record { arch = m .arch; lent = lentBy m; unwinding = u }
 
 -- the current unwinding after a call: what it returned, unless it was refused
-abbrev pub currentBy : Unwinding → Unwinding → Outcome Swept → Unwinding
+abbrev pub currentBy : Unwinding → Unwinding → Outcome Cleaned → Unwinding
 currentBy u v (Refused n) = u
 currentBy u v (Answer x) = resumed v (Answer x)
 
-unfoldable pub current : Unwinding → SweepCall → Unwinding
-current u c = currentBy u (c .unwinding) (sweptBy c)
+unfoldable pub current : Unwinding → ResumeCall → Unwinding
+current u c = currentBy u (c .unwinding) (answerOf c)
 
 -- a call is refused
-abbrev pub IsRefused : Outcome Swept → Type 0
+abbrev pub IsRefused : Outcome Cleaned → Type 0
 IsRefused (Refused n) = Unit
 IsRefused (Answer x) = ⊥
 
 -- every call of the list that is not regular is refused
-abbrev pub Admissible : Machine → Unwinding → List SweepCall → Type 0
+abbrev pub Admissible : Machine → Unwinding → List ResumeCall → Type 0
 Admissible m u [] = Unit
-Admissible m u (c ∷ cs) = ((c ≡ regular m u) ⊎ IsRefused (sweptBy c)) × Admissible m (current u c) cs
+Admissible m u (c ∷ cs) = ((c ≡ regular m u) ⊎ IsRefused (answerOf c)) × Admissible m (current u c) cs
 
 -- no regular call of the list is refused
-abbrev pub RegularServed : Machine → Unwinding → List SweepCall → Type 0
+abbrev pub RegularServed : Machine → Unwinding → List ResumeCall → Type 0
 RegularServed m u [] = Unit
-RegularServed m u (c ∷ cs) = (c ≡ regular m u → IsRefused (sweptBy c) → ⊥) × RegularServed m (current u c) cs
+RegularServed m u (c ∷ cs) = (c ≡ regular m u → IsRefused (answerOf c) → ⊥) × RegularServed m (current u c) cs
 
 -- an answer as it is compared: of a landing the frame number, sp, pc and preserved registers
-abbrev pub given : Arch → Swept → Given
-given a (Cleanup.Landing number file next) =
-    Landed (record { number = number; sp = sp a file; pc = pc file; preserved = map (value a file) (a .preserved) })
+abbrev pub given : Arch → Cleaned → Given
+given a (Cleanup.Install number file next) =
+    Installed (record { number = number; sp = sp a file; pc = pc file; preserved = map (value a file) (a .preserved) })
 given a Cleanup.Fatal = Fatal
 given a Cleanup.Finished = Finished
 
 -- the answers of the calls that are not refused, in order
-abbrev pub unlessRefused : Arch → Outcome Swept → List Given → List Given
+abbrev pub unlessRefused : Arch → Outcome Cleaned → List Given → List Given
 unlessRefused a (Refused n) rest = rest
 unlessRefused a (Answer x) rest = given a x ∷ rest
 
-abbrev pub answers : Arch → List SweepCall → List Given
+abbrev pub answers : Arch → List ResumeCall → List Given
 answers a [] = []
-answers a (c ∷ cs) = unlessRefused a (sweptBy c) (answers a cs)
+answers a (c ∷ cs) = unlessRefused a (answerOf c) (answers a cs)
 
 -- the throw call gets the machine's architecture, section, registers and stack, the event's pc, and whether it is an Interrupt
 unfoldable pub raisedBy : Machine → Throw → Outcome Searched
@@ -83,12 +82,13 @@ unfoldable pub unwindingOf : Machine → Throw → ℕ → Unwinding
 unwindingOf m t exception = raised (frame0 (m .registers) (t .pc) (t .interrupted)) exception (raisedBy m t)
 
 -- every landing, and no other, after a throw: it answers the first catch's number and sp, or 3, or 5; and for every admissible list
--- of sweep calls no regular one is refused, and the answers are the first so many of the landings due, then finished for ever
+-- of sweep calls no regular one is refused, and the answers are as many as there are of: the landings due, in order, then finished
+-- again and again
 pub record EveryLanding (m : Machine) (t : Throw) (exception : ℕ) : Type 0 where
   pub throws : raisedBy m t ≡ Answer (outcome m t)
-  pub served : (cs : List SweepCall) → Admissible m (unwindingOf m t exception) cs → RegularServed m (unwindingOf m t exception) cs
-  pub lands : (cs : List SweepCall) → Admissible m (unwindingOf m t exception) cs →
-      answers (numbers (m .arch)) cs ≡ firstOf (length (answers (numbers (m .arch)) cs)) (due m t)
+  pub lands : (cs : List ResumeCall) → Admissible m (unwindingOf m t exception) cs →
+      RegularServed m (unwindingOf m t exception) cs
+      × (answers (numbers (m .arch)) cs ≡ firstOf (length (answers (numbers (m .arch)) cs)) (due m t))
 
 -- demand 3: after every list of events from a fresh machine, then a throw or interrupt within the rules under a sound section
 abbrev pub Demand3 : Type 0

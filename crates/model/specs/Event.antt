@@ -12,11 +12,10 @@ use Rattle.arch.specs.File.{sp, setSp, setPc, pcColumn}
 use Rattle.lookup.specs.Record.{holds}
 use Rattle.lookup.specs.Tables.{Entry, records, named}
 use Rattle.frame.specs.Layout.{Pair}
-use Rattle.model.specs.FrameStep.{maxFrames}
 use Rattle.model.specs.Machine.{Open, Machine, column, isRegister, value, address, inside, clear, written}
 use Rattle.model.specs.Described.{isSpilled, described}
 
--- a record is named by its chunk and its index there; the numbers of an event are any
+-- a record is named by its chunk and its index there; the numbers in an event are any natural numbers
 pub data Event : Type 0 where
   Call : (chunk index ret : ℕ) → Event
   Spill : (reg slot : ℕ) → Event
@@ -38,8 +37,8 @@ unfoldable pub keptBy : Arch → List ℕ → ℕ → List ℕ
 keptBy a file ret = setPc (if pushes a then file else set file (a .ra) ret) ret
 
 -- the frame that a call opens: CFA = sp; (16, 1) is spilled where the call pushes
-unfoldable pub opening : Arch → List ℕ → Entry → ℕ → Open
-opening a file e ret =
+unfoldable pub newFrame : Arch → List ℕ → Entry → ℕ → Open
+newFrame a file e ret =
     record {
       entry = e;
       kept = keptBy a file ret;
@@ -53,22 +52,22 @@ returns [] ret = eqb ret 0
 returns (f ∷ fs) ret = ltb 0 ret && holds (f .entry .function) (ret - 1)
 
 -- a caller is described after this, its registers being the kept file, and its sp is below its own CFA
-abbrev pub leaves : Machine → List Open → List ℕ → ℕ → Bool
-leaves m [] kept ret = true
-leaves m (f ∷ fs) kept ret =
+abbrev pub callerDescribed : Machine → List Open → List ℕ → ℕ → Bool
+callerDescribed m [] kept ret = true
+callerDescribed m (f ∷ fs) kept ret =
     described (numbers (m .arch)) (m .section) f kept false (ret - 1) && ltb (sp (numbers (m .arch)) kept) (f .cfa)
 
--- the rules of a call: ret; CFA above 0; ret below 2^48 (on x86-64 below 2^64, which its place in a record gives); the pushed address
--- lies in the stack and meets no live slot; the caller; at most 1,024 frames
+-- the rules of a call, one test a line: ret; CFA above 0; a pushed address lies in the stack; it meets no live slot; ret below 2^48
+-- (on x86-64 below 2^64, which its place in a record gives); the caller is described; at most 1,024 frames
 unfoldable pub callAllowed : Machine → ℕ → Bool
 callAllowed m ret =
     returns (m .frames) ret
     && ltb 0 (sp (numbers (m .arch)) (m .registers))
-    && ltb ret (2 ^ numbers (m .arch) .addressBits)
     && (not (pushes (numbers (m .arch))) || inside (m .stack) (address (sp (numbers (m .arch)) (m .registers)) 1))
     && (not (pushes (numbers (m .arch))) || clear (address (sp (numbers (m .arch)) (m .registers)) 1) (m .frames))
-    && leaves m (m .frames) (keptBy (numbers (m .arch)) (m .registers) ret) ret
-    && ltb (length (m .frames)) maxFrames
+    && ltb ret (2 ^ numbers (m .arch) .addressBits)
+    && callerDescribed m (m .frames) (keptBy (numbers (m .arch)) (m .registers) ret) ret
+    && ltb (length (m .frames)) 1024
 
 -- the machine after a call
 unfoldable pub entered : Machine → Entry → ℕ → Machine
@@ -80,11 +79,11 @@ entered m e ret =
       stack =
           if pushes (numbers (m .arch)) then written (m .stack) (address (sp (numbers (m .arch)) (m .registers)) 1) ret
           else m .stack;
-      frames = opening (numbers (m .arch)) (m .registers) e ret ∷ m .frames;
+      frames = newFrame (numbers (m .arch)) (m .registers) e ret ∷ m .frames;
     }
 
--- the rules of a spill: a register's number; it equals the kept one; neither sp nor already spilled; slot 1 to 65535; the place lies
--- in the stack and meets no live slot
+-- the rules of a spill, one test a line: a register's number; it equals the kept one; not sp; not already spilled; slot 1 to 65535; the
+-- place lies in the stack; it meets no live slot
 unfoldable pub spillAllowed : Machine → Open → ℕ → ℕ → Bool
 spillAllowed m f reg slot =
     isRegister (numbers (m .arch)) reg
@@ -101,14 +100,18 @@ abbrev pub spilling : Open → ℕ → ℕ → Open
 spilling f reg slot =
     record { entry = f .entry; kept = f .kept; cfa = f .cfa; spilled = record { reg = reg; slot = slot } ∷ f .spilled }
 
--- the rules of a change: a register's number and a value of 64 bits; not sp; not pc; a preserved register only while spilled
+-- a register is neither sp nor pc
+unfoldable pub notSpNorPc : Arch → ℕ → Bool
+notSpNorPc a reg = not (eqb reg (a .sp)) && not (eqb (column a reg) pcColumn)
+
+-- the rules of a change, one test a line: a preserved register only while spilled; not sp, not pc; a register's number; a value of 64
+-- bits
 unfoldable pub changeAllowed : Machine → Open → ℕ → ℕ → Bool
 changeAllowed m f reg v =
-    isRegister (numbers (m .arch)) reg
+    (not (oneOf reg (numbers (m .arch) .preserved)) || isSpilled (f .spilled) reg)
+    && notSpNorPc (numbers (m .arch)) reg
+    && isRegister (numbers (m .arch)) reg
     && ltb v (2 ^ 64)
-    && not (eqb reg (numbers (m .arch) .sp))
-    && not (eqb (column (numbers (m .arch)) reg) pcColumn)
-    && (not (oneOf reg (numbers (m .arch) .preserved)) || isSpilled (f .spilled) reg)
 
 -- the rules of a reload: a spilled register other than 16
 unfoldable pub reloadAllowed : Open → ℕ → Bool

@@ -1,5 +1,4 @@
 -- What a throw and its sweep calls must give, computed from the machine's frames and their rows alone.
-use mathlib.Core.Bool.{Bool}
 use mathlib.Core.List.{List, [], _∷_, map}
 use Prim.Native.Nat.{ℕ, zero, suc, _+_, _%_, _^_}
 use lib.Dec.{eqb}
@@ -13,15 +12,15 @@ use Rattle.model.specs.Machine.{Machine, value}
 use Rattle.model.specs.Throw.{Throw, Standing, framesAt, recordOf, rowOf}
 
 -- a landing, as it is compared: the frame's number, and sp, pc and preserved registers at the pad
-pub record Landing : Type 0 where
+pub record LandingPad : Type 0 where
   pub number : ℕ
   pub sp : ℕ
   pub pc : ℕ
   pub preserved : List ℕ
 
 -- a frame's landing: sp and preserved registers as at its call, pc its record's start + pad modulo 2^64
-unfoldable pub landingOf : Arch → ℕ → Standing → ℕ → Landing
-landingOf a n s pad =
+unfoldable pub padOf : Arch → ℕ → Standing → ℕ → LandingPad
+padOf a n s pad =
     record {
       number = n;
       sp = sp a (s .file);
@@ -41,19 +40,19 @@ outcomeFrom a section n [] = Ended
 outcomeFrom a section n (s ∷ ss) = outcomeBy a n s (rowOf a section s) (outcomeFrom a section (n + 1) ss)
 
 -- the landings of the frames from number n on, up to the first catch: those with a cleanup row, innermost first, then the catch
-abbrev pub landingsBy : Arch → ℕ → Standing → Found → List Landing → List Landing
-landingsBy a n s None rest = rest
-landingsBy a n s (Pad pad action) rest =
-    if eqb action cleanup then landingOf a n s pad ∷ rest
-    else if eqb action catch then landingOf a n s pad ∷ []
+abbrev pub padsBy : Arch → ℕ → Standing → Found → List LandingPad → List LandingPad
+padsBy a n s None rest = rest
+padsBy a n s (Pad pad action) rest =
+    if eqb action cleanup then padOf a n s pad ∷ rest
+    else if eqb action catch then padOf a n s pad ∷ []
     else []
 
-abbrev pub landingsFrom : Arch → Region → ℕ → List Standing → List Landing
-landingsFrom a section n [] = []
-landingsFrom a section n (s ∷ ss) = landingsBy a n s (rowOf a section s) (landingsFrom a section (n + 1) ss)
+abbrev pub padsFrom : Arch → Region → ℕ → List Standing → List LandingPad
+padsFrom a section n [] = []
+padsFrom a section n (s ∷ ss) = padsBy a n s (rowOf a section s) (padsFrom a section (n + 1) ss)
 
 -- landings are due only where a catch was chosen
-abbrev pub dueBy : Searched → List Landing → List Landing
+abbrev pub dueBy : Searched → List LandingPad → List LandingPad
 dueBy (Chosen n sp) ls = ls
 dueBy Stopped ls = []
 dueBy Ended ls = []
@@ -63,16 +62,16 @@ unfoldable pub outcome : Machine → Throw → Searched
 outcome m t = outcomeFrom (numbers (m .arch)) (m .section) 0 (framesAt m t)
 
 -- the landings that are due after it
-unfoldable pub due : Machine → Throw → List Landing
-due m t = dueBy (outcome m t) (landingsFrom (numbers (m .arch)) (m .section) 0 (framesAt m t))
+unfoldable pub due : Machine → Throw → List LandingPad
+due m t = dueBy (outcome m t) (padsFrom (numbers (m .arch)) (m .section) 0 (framesAt m t))
 
 -- an answer of a sweep call, as it is compared
 pub data Given : Type 0 where
-  Landed : Landing → Given
+  Installed : LandingPad → Given
   Fatal Finished : Given
 
 -- the first n answers: the landings, then finished for ever
-abbrev pub firstOf : ℕ → List Landing → List Given
+abbrev pub firstOf : ℕ → List LandingPad → List Given
 firstOf zero ls = []
 firstOf (suc n) [] = Finished ∷ firstOf n []
-firstOf (suc n) (l ∷ ls) = Landed l ∷ firstOf n ls
+firstOf (suc n) (l ∷ ls) = Installed l ∷ firstOf n ls

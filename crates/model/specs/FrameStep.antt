@@ -49,7 +49,7 @@ callerFile a m interrupted r at file =
       apply a m (layout (ran .state)) file)
     else step a m (r .frame) interrupted file
 
--- sp lower than before, or equal past the first frame
+-- sp lower than before, or equal past the first frame, which is 20
 unfoldable pub notAdvancing : Arch → ℕ → List ℕ → List ℕ → Bool
 notAdvancing a number file next = ltb (sp a next) (sp a file) || (not (eqb number 0) && eqb (sp a next) (sp a file))
 

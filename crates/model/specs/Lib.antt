@@ -9,4 +9,7 @@ pub mod Event
 pub mod Throw
 pub mod Sound
 pub mod Expected
+pub mod Exactly
+pub mod OtherStack
 pub mod Demand
+pub mod Call

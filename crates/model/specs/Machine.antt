@@ -9,7 +9,7 @@ use Rattle.failure.specs.Outcome.{Outcome, Refused, Answer}
 use Rattle.mem.specs.Memory.{Region, Memory, Lent, Bytes, size}
 use Rattle.mem.specs.Opening.{opens}
 use Rattle.mem.specs.Place.{holds}
-use Rattle.arch.specs.Arch.{Arch, numbers, isKnown}
+use Rattle.arch.specs.Arch.{Arch, isKnown}
 use Rattle.arch.specs.File as File
 use Rattle.arch.specs.File.{columnOf}
 use Rattle.lookup.specs.Tables.{Entry}
@@ -48,11 +48,12 @@ pub record Fresh (m : Machine) : Type 0 where
   pub bytes : Bytes (memory m)
   pub known : isKnown (m .arch) ≡ true
 
--- the column of a register; for other numbers 41, which no file has
+-- the column, or 41, which no file has
 abbrev pub orNone : Outcome ℕ → ℕ
 orNone (Refused n) = File.columns
 orNone (Answer k) = k
 
+-- the column of a register
 unfoldable pub column : Arch → ℕ → ℕ
 column a reg = orNone (columnOf a reg)
 
@@ -64,7 +65,7 @@ isRegister a reg = ltb (column a reg) File.columns
 unfoldable pub value : Arch → List ℕ → ℕ → ℕ
 value a file reg = getD file (column a reg) 0
 
--- the address of a slot, below a CFA
+-- the address of a slot, CFA - 8 * slot; where that would be below 0 it is 0, which lies in no stack
 abbrev pub address : ℕ → ℕ → ℕ
 address cfa slot = cfa - 8 * slot
 

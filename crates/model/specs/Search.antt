@@ -1,6 +1,4 @@
 -- The search phase of a throw (document 01, "Walk, throw and call machine").
-use mathlib.Core.Bool.{Bool}
-use mathlib.Core.List.{List}
 use Prim.Native.Nat.{ℕ, zero, suc}
 use lib.Dec.{eqb}
 use Rattle.failure.specs.Choice.{if_then_else_}
@@ -17,6 +15,16 @@ use Rattle.model.specs.FrameStep.{Frame, Step, End, Past, frameStep}
 pub data Searched : Type 0 where
   Chosen : (number sp : ℕ) → Searched
   Stopped Ended : Searched
+
+-- the end of the stack (Itanium C++ ABI: _URC_END_OF_STACK)
+abbrev pub endOfStack : ℕ
+endOfStack = 5
+
+-- document 01's number for each case
+abbrev pub reasonOf : Searched → ℕ
+reasonOf (Chosen number sp) = handlerFound
+reasonOf Stopped = fatalPhase1
+reasonOf Ended = endOfStack
 
 -- the code of a row in the search phase: 8 for none or cleanup, 6 catch, 3 terminate
 abbrev pub searchCode : Found → ℕ
@@ -37,7 +45,7 @@ searchAt arch m f rest (Past r next) = do
   row ← rowOf (numbers arch) m (f .interrupted) r (pc (f .file))
   byCode (numbers arch) f (searchCode row) (rest next)
 
--- the search from a frame on, over at most n frames
+-- the search from a frame on, over at most n frames; from 1,025 on the first line is never met
 abbrev pub searchFrom : ℕ → ℕ → Memory → Frame → Outcome Searched
 searchFrom zero arch m f = Refused TooManyFrames
 searchFrom (suc n) arch m f = frameStep arch m f >>= searchAt arch m f (λ next. searchFrom n arch m next)

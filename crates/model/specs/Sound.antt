@@ -1,5 +1,5 @@
 -- A sound section (document 01: "Sound section"): its tables, and the row tables of the open frames.
-use mathlib.Core.Bool.{Bool, true, false, not, _&&_, _||_}
+use mathlib.Core.Bool.{Bool, true, false, not, _&&_}
 use mathlib.Core.List.{List, [], _∷_}
 use mathlib.Core.Path.{_≡_}
 use Prim.Native.Nat.{ℕ, _-_, _^_}
@@ -29,7 +29,7 @@ abbrev pub rises : List Entry → Bool
 rises [] = true
 rises (e ∷ es) = risesFrom e es
 
--- so many rows as the table counts
+-- as many rows as the table counts
 abbrev pub counts : Outcome ℕ → List Entry → Bool
 counts (Refused n) es = false
 counts (Answer count) es = eqb (length es) count

@@ -1,7 +1,6 @@
 -- The throw or interrupt that comes last, the frames that it finds, and their rows (document 01: "Throw or Interrupt (pc), last").
-use mathlib.Core.Bool.{Bool, true, false, not, _&&_, _||_}
+use mathlib.Core.Bool.{Bool, false, _&&_, _||_}
 use mathlib.Core.List.{List, [], _∷_}
-use mathlib.Core.Path.{_≡_}
 use Prim.Native.Nat.{ℕ, zero, suc, _+_, _-_, _^_}
 use lib.Dec.{eqb, ltb}
 use Rattle.failure.specs.Choice.{if_then_else_}
@@ -12,11 +11,10 @@ use Rattle.arch.specs.Arch.{Arch, numbers}
 use Rattle.arch.specs.File.{pc, setPc}
 use Rattle.lookup.specs.Record.{holds}
 use Rattle.lookup.specs.declared.Record.{Record}
-use Rattle.program.specs.Run.{Ran, run}
+use Rattle.program.specs.Run.{run}
 use Rattle.rows.specs.Row.{Found, None}
 use Rattle.rows.specs.Handler.{Entry, entryAt}
 use Rattle.rows.specs.Prefix.{rowsOf, rowAt}
-use Rattle.model.specs.FrameStep.{lookedUp}
 use Rattle.model.specs.Machine.{Open, Machine}
 use Rattle.model.specs.Described.{described}
 
@@ -24,6 +22,10 @@ use Rattle.model.specs.Described.{described}
 pub record Throw : Type 0 where
   pub pc : ℕ
   pub interrupted : Bool
+
+-- the address that a throw is looked up at: pc - 1, or pc for an Interrupt
+abbrev pub lookedAt : Throw → ℕ
+lookedAt t = if t .interrupted then t .pc else t .pc - 1
 
 -- frame 0's registers at its call: those at the throw, with its pc
 abbrev pub thrown : Machine → Throw → List ℕ
@@ -34,8 +36,8 @@ abbrev pub throwable : Machine → Throw → List Open → Bool
 throwable m t [] = false
 throwable m t (f ∷ fs) =
     ltb 0 (t .pc)
-    && holds (f .entry .function) (lookedUp (t .interrupted) (t .pc))
-    && described (numbers (m .arch)) (m .section) f (thrown m t) (t .interrupted) (lookedUp (t .interrupted) (t .pc))
+    && holds (f .entry .function) (lookedAt t)
+    && described (numbers (m .arch)) (m .section) f (thrown m t) (t .interrupted) (lookedAt t)
 
 unfoldable pub throwAllowed : Machine → Throw → Bool
 throwAllowed m t = throwable m t (m .frames)

@@ -3,7 +3,7 @@ use mathlib.Core.Bool.{Bool, true, false}
 use mathlib.Core.List.{List}
 use Prim.Native.Nat.{ℕ}
 use Rattle.failure.specs.Choice.{if_then_else_}
-use Rattle.failure.specs.Outcome.{Outcome, Refused, Answer, _>>=_}
+use Rattle.failure.specs.Outcome.{Outcome, Refused, Answer}
 use Rattle.failure.specs.Failure.{BadOpening}
 use Rattle.mem.specs.Memory.{Lent}
 use Rattle.mem.specs.Opening.{opens}
@@ -12,13 +12,13 @@ use Rattle.arch.specs.File.{setPc}
 use Rattle.model.specs.declared.Unwinding.{Unwinding}
 use Rattle.model.specs.FrameStep.{Frame, Step, frameStep}
 use Rattle.model.specs.Search.{Searched, Chosen, Stopped, Ended, search}
-use Rattle.model.specs.Cleanup.{Choice, Swept, Landing, Fatal, Finished, sweep}
+use Rattle.model.specs.Cleanup.{Choice, Cleaned, Install, Fatal, Finished, clean}
 
 -- 28 first: for what is lent, then for an architecture other than 1 and 2
 unfoldable pub opened : {A : Type 0} → Lent → ℕ → Outcome A → Outcome A
 opened l arch o = if opens l then (if isKnown arch then o else Refused BadOpening) else Refused BadOpening
 
--- the frame step in what is lent
+-- the frame step in what is lent (document 01: walk)
 unfoldable pub nextFrame : Lent → ℕ → Frame → Outcome Step
 nextFrame l arch f = opened l arch (frameStep arch (l .regions) f)
 
@@ -70,9 +70,9 @@ abbrev pub choiceOf : Unwinding → Choice
 choiceOf u = record { number = u .«chosen_number»; sp = u .«chosen_sp» }
 
 -- `resume`: finished where nothing is chosen or the chosen frame has landed, else the next landing
-unfoldable pub resume : Lent → ℕ → Unwinding → Outcome Swept
+unfoldable pub resume : Lent → ℕ → Unwinding → Outcome Cleaned
 resume l arch u =
-    opened l arch (if u .chosen then sweep arch (l .regions) (u .exception) (choiceOf u) (frameOf u) else Answer Finished)
+    opened l arch (if u .chosen then clean arch (l .regions) (u .exception) (choiceOf u) (frameOf u) else Answer Finished)
 
 -- an unwinding that goes on from a frame
 abbrev pub goingOn : Unwinding → Frame → Unwinding
@@ -88,8 +88,8 @@ goingOn u f =
     }
 
 -- the unwinding that `resume` hands back: past the frame that landed; otherwise the one that came in
-abbrev pub resumed : Unwinding → Outcome Swept → Unwinding
+abbrev pub resumed : Unwinding → Outcome Cleaned → Unwinding
 resumed u (Refused n) = u
-resumed u (Answer (Landing number file next)) = goingOn u next
+resumed u (Answer (Install number file next)) = goingOn u next
 resumed u (Answer Fatal) = u
 resumed u (Answer Finished) = u

@@ -41,7 +41,7 @@ fn answer(arch: Arch, line: &[u8]) -> String {
     };
     match operations::answer(arch, line) {
         Ok(text) => text,
-        Err(Stop::Refused(failure)) => format!("err {}", failure.number()),
+        Err(Stop::Refused(failure)) => operations::failure_text(failure),
         Err(Stop::Bad) => "bad".to_string(),
     }
 }

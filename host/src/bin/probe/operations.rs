@@ -1,5 +1,5 @@
 //! One function for each operation of the protocol: it reads all its arguments, calls the library, and writes the answer.
-use morthwyga::{Arch, Memory, Phase, Record, Regs, Row, State, strip_pac};
+use morthwyga::{Arch, Failure, Frame, Memory, Phase, Raised, Reason, Record, Regs, Resumed, Row, State, Unwinding, strip_pac};
 
 use crate::args::{Args, Parsed, Stop, columns};
 
@@ -29,6 +29,8 @@ pub fn answer(arch: Arch, line: &str) -> Answer {
         "sp" => sp(arch, args),
         "set_sp" => set_sp(arch, args),
         "strip" => strip(arch, args),
+        "walk" => walk(arch, memory, args),
+        "unwind" => unwind(arch, memory, args),
         _ => Err(Stop::Bad),
     }
 }
@@ -158,6 +160,66 @@ fn strip(arch: Arch, args: &mut Args) -> Answer {
     let address = args.number()?;
     args.end()?;
     Ok(value_text(strip_pac(arch, address)?))
+}
+
+/// INTERRUPTED REGS
+fn walk(arch: Arch, memory: Memory, args: &mut Args) -> Answer {
+    let (interrupted, regs) = (args.flag()?, args.regs(arch)?);
+    args.end()?;
+    let mut frame = Frame { number: 0, interrupted, regs };
+    let mut text = "walk".to_string();
+    loop {
+        match memory.next_frame(arch, frame) {
+            Ok(Some((record, caller))) => {
+                text += &format!(" {}:{}:{}", record.start, frame.regs.pc(), frame.regs.sp(arch)?);
+                frame = caller;
+            }
+            Ok(None) => return Ok(text + " end"),
+            Err(failure) => return Ok(format!("{text} {}", failure_text(failure))),
+        }
+    }
+}
+
+/// EXC INTERRUPTED CALLS REGS
+fn unwind(arch: Arch, memory: Memory, args: &mut Args) -> Answer {
+    let (exception, interrupted) = (args.number()?, args.flag()?);
+    let (calls, regs): (u64, Regs) = (args.number()?, args.regs(arch)?);
+    args.end()?;
+    let (raised, mut unwinding) = memory.raise(arch, regs, regs.pc(), interrupted, exception);
+    let mut text = match raised {
+        Ok(Raised::Chosen { number, sp }) => format!("chosen {number} {sp}"),
+        Ok(Raised::Terminated) => reason_text(Reason::FatalPhase1Error as u32),
+        Ok(Raised::EndOfStack) => reason_text(END_OF_STACK),
+        Err(failure) => failure_text(failure),
+    };
+    for _ in 0..calls {
+        text += &format!(" | {}", resume(arch, memory, &mut unwinding));
+    }
+    Ok(text)
+}
+
+/// One regular call, after which the unwinding is the one that it handed back.
+fn resume(arch: Arch, memory: Memory, unwinding: &mut Unwinding) -> String {
+    match memory.resume(arch, *unwinding) {
+        Ok(Resumed::Landing { number, regs, next }) => {
+            *unwinding = next;
+            format!("landing {number} {}", list_text(arch, &regs))
+        }
+        Ok(Resumed::Terminated) => reason_text(Reason::FatalPhase2Error as u32),
+        Ok(Resumed::Finished) => "finished".to_string(),
+        Err(failure) => failure_text(failure),
+    }
+}
+
+/// The reason of a throw that no frame catches.
+const END_OF_STACK: u32 = 5;
+
+fn reason_text(number: u32) -> String {
+    format!("reason {number}")
+}
+
+pub fn failure_text(failure: Failure) -> String {
+    format!("err {}", failure.number())
 }
 
 fn value_text(value: usize) -> String {

@@ -19,11 +19,11 @@ use Rattle.personality.specs.Reason as Reason
 use Rattle.model.specs.FrameStep.{Frame, maxFrames}
 use Rattle.model.specs.Search.{Searched, Chosen, Stopped, Ended}
 use Rattle.model.specs.Cleanup as Cleanup
-use Rattle.model.specs.Cleanup.{Choice, Swept, byRow, sweepAt, sweepFrom}
+use Rattle.model.specs.Cleanup.{Choice, Cleaned, byRow, cleanAt, cleanFrom}
 use Rattle.model.specs.Machine.{Open}
 use Rattle.model.specs.Throw.{Standing, standing, rowOf}
 use Rattle.model.specs.Sound.{goodFrame, goodFrames}
-use Rattle.model.specs.Expected.{Landing, Landed, landingOf, outcomeBy, outcomeFrom, landingsBy, landingsFrom}
+use Rattle.model.specs.Expected.{LandingPad, Installed, padOf, outcomeBy, outcomeFrom, padsBy, padsFrom}
 use Rattle.model.specs.Demand.{given}
 use Rattle.model.proofs.Chain.{AllLive, Chain, Agrees}
 use Rattle.model.proofs.Stands.{frame, Goes}
@@ -48,7 +48,7 @@ chosen-above a section n (x ∷ ss) k s e = go (rowOf a section x) e (λ p. chos
 
 module _ (arch : ℕ) (section stack : Region) where
   -- where an unwinding stands: at the first of these frames, with these landings due up to the chosen one
-  pub record Stands (c : Choice) (n : ℕ) (first interrupted : Bool) (file file′ : List ℕ) (fs : List Open) (ls : List Landing) : Type 0 where
+  pub record Stands (c : Choice) (n : ℕ) (first interrupted : Bool) (file file′ : List ℕ) (fs : List Open) (ls : List LandingPad) : Type 0 where
     pub few : n + length fs ≤ maxFrames
     pub zeroth : first ≡ true → n ≡ 0
     pub chain : Chain arch section first interrupted file fs
@@ -56,37 +56,37 @@ module _ (arch : ℕ) (section stack : Region) where
     pub good : goodFrames (numbers arch) section (standing interrupted file fs) ≡ true
     pub agrees : Agrees (numbers arch) file′ file
     pub chosen : outcomeFrom (numbers arch) section n (standing interrupted file fs) ≡ Chosen (c .number) (c .sp)
-    pub due : landingsFrom (numbers arch) section n (standing interrupted file fs) ≡ ls
+    pub due : padsFrom (numbers arch) section n (standing interrupted file fs) ≡ ls
 
   -- at some frames, or past the chosen one
-  pub data At (c : Choice) (f : Frame) (ls : List Landing) : Type 0 where
+  pub data At (c : Choice) (f : Frame) (ls : List LandingPad) : Type 0 where
     Amid : (first : Bool) (file : List ℕ) (fs : List Open) →
         Stands c (f .number) first (f .interrupted) file (f .file) fs ls → At c f ls
     Over : c .number < f .number → ls ≡ [] → At c f ls
 
   -- what a sweep comes to: the first landing that is due, and where the unwinding stands after it
-  pub record Sweeps (c : Choice) (o : Outcome Swept) (ls : List Landing) : Type 0 where
+  pub record Cleans (c : Choice) (o : Outcome Cleaned) (ls : List LandingPad) : Type 0 where
     pub number : ℕ
     pub pad : List ℕ
     pub next : Frame
-    pub landing : Landing
-    pub rest : List Landing
-    pub is : o ≡ Answer (Cleanup.Landing number pad next)
+    pub landing : LandingPad
+    pub rest : List LandingPad
+    pub is : o ≡ Answer (Cleanup.Install number pad next)
     pub first : ls ≡ landing ∷ rest
-    pub same : given (numbers arch) (Cleanup.Landing number pad next) ≡ Landed landing
+    pub same : given (numbers arch) (Cleanup.Install number pad next) ≡ Installed landing
     pub after : At c next rest
 
   -- a frame that stands, its caller's file, and what the sweep of the frames after it comes to
   module _
       (exception : ℕ) (c : Choice) (n : ℕ) (first interrupted : Bool) (file file′ next : List ℕ) (f : Open) (fs : List Open)
-      (ls : List Landing) (s : Stands c n first interrupted file file′ (f ∷ fs) ls) (agrees : Agrees (numbers arch) next (f .kept))
-      (o : Outcome Swept) where
+      (ls : List LandingPad) (s : Stands c n first interrupted file file′ (f ∷ fs) ls) (agrees : Agrees (numbers arch) next (f .kept))
+      (o : Outcome Cleaned) where
     -- the chosen frame is one of those after this one
     abbrev Later : Type 0
     Later = outcomeFrom (numbers arch) section (n + 1) (standing false (f .kept) fs) ≡ Chosen (c .number) (c .sp)
 
-    abbrev laterDue : List Landing
-    laterDue = landingsFrom (numbers arch) section (n + 1) (standing false (f .kept) fs)
+    abbrev laterDue : List LandingPad
+    laterDue = padsFrom (numbers arch) section (n + 1) (standing false (f .kept) fs)
 
     stands : Later → Stands c (n + 1) false false (f .kept) next fs laterDue
     stands e =
@@ -110,16 +110,16 @@ module _ (arch : ℕ) (section stack : Region) where
         lt-ltb n (c .number) (omega arith)
 
     -- this frame lands
-    landed : (pad : ℕ) (rest : List Landing) → ls ≡ landingOf (numbers arch) n (stood interrupted file f) pad ∷ rest →
+    landed : (pad : ℕ) (rest : List LandingPad) → ls ≡ padOf (numbers arch) n (stood interrupted file f) pad ∷ rest →
         At c (frame (n + 1) false next) rest →
-        Sweeps c (Cleanup.land (numbers arch) exception (frame n interrupted file′) (f .entry .function) pad (frame (n + 1) false next)) ls
+        Cleans c (Cleanup.installPad (numbers arch) exception (frame n interrupted file′) (f .entry .function) pad (frame (n + 1) false next)) ls
     landed pad rest e after =
         let l = lands arch exception n interrupted file file′ f pad (frame (n + 1) false next) (s .agrees) in
         record {
           number = n;
           pad = l .there;
           next = frame (n + 1) false next;
-          landing = landingOf (numbers arch) n (stood interrupted file f) pad;
+          landing = padOf (numbers arch) n (stood interrupted file f) pad;
           rest = rest;
           is = l .is;
           first = e;
@@ -127,16 +127,16 @@ module _ (arch : ℕ) (section stack : Region) where
           after = after;
         }
 
-    abbrev SweptBy : Found → Type 0
-    SweptBy row =
-        Sweeps c (byRow (numbers arch) exception c (frame n interrupted file′) (f .entry .function) (frame (n + 1) false next) o row) ls
+    abbrev CleanedBy : Found → Type 0
+    CleanedBy row =
+        Cleans c (byRow (numbers arch) exception c (frame n interrupted file′) (f .entry .function) (frame (n + 1) false next) o row) ls
 
     -- by the action of its row
     acts : (pad action : ℕ) (t u : Bool) → eqb action cleanup ≡ t → eqb action catch ≡ u →
         outcomeBy (numbers arch) n (stood interrupted file f) (Pad pad action)
         (outcomeFrom (numbers arch) section (n + 1) (standing false (f .kept) fs))
         ≡ Chosen (c .number) (c .sp) →
-        landingsBy (numbers arch) n (stood interrupted file f) (Pad pad action) laterDue ≡ ls → SweptBy (Pad pad action)
+        padsBy (numbers arch) n (stood interrupted file f) (Pad pad action) laterDue ≡ ls → CleanedBy (Pad pad action)
     acts pad action true u p q e d =
         let later : Later = rw p at e in
         let due = rw p at d in
@@ -153,11 +153,11 @@ module _ (arch : ℕ) (section stack : Region) where
         let z : _≡_ {A = ℕ} 0 1 = cc in absurd (omega arith)
 
     -- by its row
-    by-row : (row : Found) → rowOf (numbers arch) section (stood interrupted file f) ≡ row → (Later → Sweeps c o laterDue) → SweptBy row
+    by-row : (row : Found) → rowOf (numbers arch) section (stood interrupted file f) ≡ row → (Later → Cleans c o laterDue) → CleanedBy row
     by-row None e rest =
         let later : Later = rw e at (s .chosen) in
         let due = rw e at (s .due) in
-        rw (under later) (subst (λ (k : List Landing). Sweeps c o k) due (rest later))
+        rw (under later) (subst (λ (k : List LandingPad). Cleans c o k) due (rest later))
     by-row (Pad pad action) e rest =
         acts pad action (eqb action cleanup) (eqb action catch) refl refl (rw e at (s .chosen)) (rw e at (s .due))
 
@@ -165,17 +165,17 @@ module _ (arch : ℕ) (section stack : Region) where
     -- what the sweep of these frames comes to, from wherever it stands at the first of them
     abbrev Rest : List Open → ℕ → Type 0
     Rest fs fuel =
-        (n : ℕ) (first interrupted : Bool) (file file′ : List ℕ) (ls : List Landing) → Stands c n first interrupted file file′ fs ls →
-        Sweeps c (sweepFrom fuel arch (section ∷ stack ∷ []) exception c (frame n interrupted file′)) ls
+        (n : ℕ) (first interrupted : Bool) (file file′ : List ℕ) (ls : List LandingPad) → Stands c n first interrupted file file′ fs ls →
+        Cleans c (cleanFrom fuel arch (section ∷ stack ∷ []) exception c (frame n interrupted file′)) ls
 
     -- past a frame
-    sweep-past :
-        (f : Open) (fs : List Open) (fuel n : ℕ) (first interrupted : Bool) (file file′ : List ℕ) (ls : List Landing) →
+    clean-past :
+        (f : Open) (fs : List Open) (fuel n : ℕ) (first interrupted : Bool) (file file′ : List ℕ) (ls : List LandingPad) →
         (s : Stands c n first interrupted file file′ (f ∷ fs) ls) → Goes arch (section ∷ stack ∷ []) n interrupted file′ f → Rest fs fuel →
-        Sweeps c (sweepFrom (suc fuel) arch (section ∷ stack ∷ []) exception c (frame n interrupted file′)) ls
-    sweep-past f fs fuel n first interrupted file file′ ls s g rest =
+        Cleans c (cleanFrom (suc fuel) arch (section ∷ stack ∷ []) exception c (frame n interrupted file′)) ls
+    clean-past f fs fuel n first interrupted file file′ ls s g rest =
         let good = both (goodFrame (numbers arch) section (stood interrupted file f)) _ (s .good) .0 in
-        let o = sweepFrom fuel arch (section ∷ stack ∷ []) exception c (frame (n + 1) false (g .next)) in
+        let o = cleanFrom fuel arch (section ∷ stack ∷ []) exception c (frame (n + 1) false (g .next)) in
         rw (
           g .steps,
           ap (λ (x : ℕ). Reason.rowOf (numbers arch) (section ∷ stack ∷ []) interrupted (f .entry .function) x) (s .agrees .pc),
@@ -187,13 +187,13 @@ module _ (arch : ℕ) (section stack : Region) where
         rest (n + 1) false false (f .kept) (g .next) _
         (stands exception c n first interrupted file file′ (g .next) f fs ls s (g .agrees) o later)))
 
-    pub sweeps : (fs : List Open) (fuel : ℕ) → length fs < fuel → Rest fs fuel
-    sweeps fs zero enough n first interrupted file file′ ls s = absurd (omega arith)
-    sweeps [] (suc fuel) enough n first interrupted file file′ ls s =
+    pub cleans : (fs : List Open) (fuel : ℕ) → length fs < fuel → Rest fs fuel
+    cleans fs zero enough n first interrupted file file′ ls s = absurd (omega arith)
+    cleans [] (suc fuel) enough n first interrupted file file′ ls s =
         let e = s .chosen in
         let z : _≡_ {A = ℕ} 0 1 = cc in absurd (omega arith)
-    sweeps (f ∷ fs) (suc fuel) enough n first interrupted file file′ ls s =
+    cleans (f ∷ fs) (suc fuel) enough n first interrupted file file′ ls s =
         let few = s .few in
-        sweep-past f fs fuel n first interrupted file file′ ls s
+        clean-past f fs fuel n first interrupted file file′ ls s
         (w .goes n first interrupted file file′ f (omega arith) (s .zeroth) (s .chain .0) (s .live .0) (s .agrees))
-        (sweeps fs fuel (omega arith))
+        (cleans fs fuel (omega arith))

@@ -1,0 +1,142 @@
+-- What follows from demand 3: at most 1,024 landings, then finished; and stacks that agree on live slots give the same. The invariant
+-- holds of every machine that events make of a fresh one (`Steps`). Assumes nothing.
+use mathlib.Core.Bool.{Bool, true, false}
+use mathlib.Core.List.{List, [], _∷_, List·Memᴰ·head, List·Memᴰ·tail}
+use mathlib.Core.Option.{some}
+use mathlib.Core.Path.{_≡_, refl, sym, _∙_, ap}
+use Prim.Native.Nat.{ℕ, zero, suc, _+_, _≤_, _<_}
+use native.Mathlib.Omega.{arith}
+use lib.Dec.{eqb}
+use lib.ListN.{length, getElem?}
+use Rattle.failure.specs.Choice.{if_then_else_}
+use Rattle.mem.specs.Memory.{Region}
+use Rattle.mem.specs.Opening.{opens}
+use Rattle.arch.specs.Arch.{Arch, numbers}
+use Rattle.rows.specs.Row.{Found, None, Pad, cleanup, catch}
+use Rattle.model.specs.FrameStep.{maxFrames}
+use Rattle.model.specs.Search.{Searched, Chosen, Stopped, Ended}
+use Rattle.model.specs.Machine.{Open, Machine, lentBy}
+use Rattle.model.specs.Throw.{Throw, thrown, throwable, throwAllowed, Standing, standing, framesAt, rowOf}
+use Rattle.model.specs.Sound.{Sound}
+use Rattle.model.specs.Expected.{LandingPad, Given, Finished, padOf, padsBy, padsFrom, outcome, due, dueBy, firstOf}
+use Rattle.model.specs.OtherStack.{SameLive, withStack}
+use Rattle.model.specs.Demand.{ResumeCall, Admissible, answers, raisedBy, unwindingOf, EveryLanding}
+use Rattle.model.proofs.Chain.{AllLive, Inv}
+use Rattle.model.proofs.Theorem.{every-landing}
+
+-- each landing is of a frame of its own
+pads-length : (a : Arch) (section : Region) (n : ℕ) (ss : List Standing) → length (padsFrom a section n ss) ≤ length ss
+pads-length a section n [] = omega arith
+pads-length a section n (s ∷ ss) = go (rowOf a section s) (pads-length a section (n + 1) ss)
+  where
+    rest : List LandingPad
+    rest = padsFrom a section (n + 1) ss
+
+    acts : (l : LandingPad) (t u : Bool) → length rest ≤ length ss → length (if t then l ∷ rest else if u then l ∷ [] else []) ≤ suc (length ss)
+    acts l true u h = omega arith
+    acts l false true h = omega arith
+    acts l false false h = omega arith
+
+    go : (row : Found) → length rest ≤ length ss → length (padsBy a n s row rest) ≤ suc (length ss)
+    go None h = omega arith
+    go (Pad pad action) h = acts (padOf a n s pad) (eqb action cleanup) (eqb action catch) h
+
+-- and each frame an open one
+standing-length : (interrupted : Bool) (file : List ℕ) (fs : List Open) → length (standing interrupted file fs) ≡ length fs
+standing-length interrupted file [] = refl
+standing-length interrupted file (f ∷ fs) = ap suc (standing-length false (f .kept) fs)
+
+-- at most 1,024 landings are due
+pub due-few : (m : Machine) → Inv m → (t : Throw) → length (due m t) ≤ maxFrames
+unfolding due
+due-few m i t = go (outcome m t)
+  where
+    ls : List LandingPad
+    ls = padsFrom (numbers (m .arch)) (m .section) 0 (framesAt m t)
+
+    go : (o : Searched) → length (dueBy o ls) ≤ maxFrames
+    go (Chosen k p) =
+        let all = pads-length (numbers (m .arch)) (m .section) 0 (framesAt m t) in
+        let frames = standing-length (t .interrupted) (thrown m t) (m .frames) in
+        let few = i .few in
+        omega arith
+    go Stopped = omega arith
+    go Ended = omega arith
+
+-- past the landings, every answer is finished
+first-finished : (n : ℕ) (ls : List LandingPad) (k : ℕ) → length ls ≤ k → k < n → getElem? (firstOf n ls) k ≡ some Finished
+first-finished zero ls k past less = absurd (omega arith)
+first-finished (suc n) [] zero past less = refl
+first-finished (suc n) [] (suc k) past less = first-finished n [] k (omega arith) (omega arith)
+first-finished (suc n) (l ∷ ls) zero past less = absurd (omega arith)
+first-finished (suc n) (l ∷ ls) (suc k) past less = first-finished n ls k (omega arith) (omega arith)
+
+-- after every landing that is due was given, each further call that is not refused answers finished
+pub then-finished : (m : Machine) (t : Throw) (exception : ℕ) → EveryLanding m t exception → (cs : List ResumeCall) →
+    Admissible m (unwindingOf m t exception) cs → (k : ℕ) → length (due m t) ≤ k → k < length (answers (numbers (m .arch)) cs) →
+    getElem? (answers (numbers (m .arch)) cs) k ≡ some Finished
+then-finished m t exception every cs admissible k past less =
+    ap (λ (gs : List Given). getElem? gs k) (every .lands cs admissible .1)
+    ∙ first-finished (length (answers (numbers (m .arch)) cs)) (due m t) k past less
+
+-- a stack that agrees on the live slots holds the kept values in them
+other-live : (a : Arch) (stack other : Region) (fs : List Open) → AllLive a stack fs → SameLive stack other fs → AllLive a other fs
+other-live a stack other [] live same = tt
+other-live a stack other (f ∷ fs) live same = (
+  λ p i.
+      let here = live .0 p i in
+      let there = same f (List·Memᴰ·head refl) p i in
+      record { within = there .within; holding = there .same ∙ here .holding },
+  other-live a stack other fs (live .1) (λ g i. same g (List·Memᴰ·tail i)),
+)
+
+module _
+    (m : Machine) (i : Inv m) (other : Region) (accepted : opens (lentBy (withStack m other)) ≡ true)
+    (same : SameLive (m .stack) other (m .frames)) where
+  -- so the invariant holds of the machine with that stack too
+  pub other-inv : Inv (withStack m other)
+  other-inv =
+      record {
+        known = i .known;
+        accepted = accepted;
+        bytes = i .bytes;
+        wide = i .wide;
+        values = i .values;
+        few = i .few;
+        live = other-live (numbers (m .arch)) (m .stack) other (m .frames) (i .live) same;
+        inner = i .inner;
+      }
+
+  -- the rules of a throw do not look at the stack
+  other-throwable : (t : Throw) (fs : List Open) → throwable (withStack m other) t fs ≡ throwable m t fs
+  other-throwable t [] = refl
+  other-throwable t (f ∷ fs) = refl
+
+  module _ (t : Throw) (allowed : throwAllowed m t ≡ true) (s : Sound m t) where
+    -- every landing, and no other, after the same throw
+    other-every : (exception : ℕ) → EveryLanding (withStack m other) t exception
+    unfolding throwAllowed
+    other-every =
+        every-landing (withStack m other) other-inv t (other-throwable t (m .frames) ∙ allowed)
+        (record { tables = s .tables; frames = s .frames })
+
+    -- what is expected does not look at the stack
+    pub other-expected : (outcome (withStack m other) t ≡ outcome m t) × (due (withStack m other) t ≡ due m t)
+    unfolding outcome due
+    other-expected = (refl, refl)
+
+    -- the throw answers the same
+    pub other-throws : raisedBy (withStack m other) t ≡ raisedBy m t
+    unfolding outcome
+    other-throws = other-every 0 .throws ∙ sym (every-landing m i t allowed s 0 .throws)
+
+    -- and so do sweep calls, as many as answer in both
+    pub other-answers : (exception exception′ : ℕ) (cs ds : List ResumeCall) →
+        Admissible (withStack m other) (unwindingOf (withStack m other) t exception) cs →
+        Admissible m (unwindingOf m t exception′) ds →
+        length (answers (numbers (m .arch)) cs) ≡ length (answers (numbers (m .arch)) ds) →
+        answers (numbers (m .arch)) cs ≡ answers (numbers (m .arch)) ds
+    unfolding due outcome
+    other-answers exception exception′ cs ds c d e =
+        other-every exception .lands cs c .1
+        ∙ (ap (λ (n : ℕ). firstOf n (due m t)) e ∙ sym (every-landing m i t allowed s exception′ .lands ds d .1))

@@ -1,0 +1,82 @@
+-- The closed runs are what their stories say: demand 3 is not vacuous. Assumes nothing.
+use mathlib.Core.Bool.{true}
+use mathlib.Core.Path.{_≡_, refl}
+use Rattle.mem.specs.Opening.{bounded, apart, opens}
+use Rattle.mem.specs.Place as Place
+use Rattle.mem.specs.Place.{bytesAt}
+use Rattle.mem.specs.Word.{load}
+use Rattle.leb.specs.Reader.{byteAt, ulebAt}
+use Rattle.arch.specs.Arch.{numbers, isKnown}
+use Rattle.arch.specs.File.{columnOf, get, set}
+use Rattle.state.specs.State.{overfull, entry}
+use Rattle.state.specs.Save.{save}
+use Rattle.program.specs.Operation.{formOf, decode}
+use Rattle.program.specs.Rule.{frameRegs, follow}
+use Rattle.program.specs.Run.{act, run}
+use Rattle.frame.specs.Frame.{savedPairs, fpPair, raSlot}
+use Rattle.frame.specs.Apply.{badFp, loadSlot, applyAt, apply}
+use Rattle.frame.specs.Step as Step
+use Rattle.frame.specs.Step.{pastTable, leafCfa, fpCfa, spCfa, frameCfa, returnAddress, setReturn, setFrame, setCaller, stepAt}
+use Rattle.frame.specs.ReadAs.{readAs, passes}
+use Rattle.rows.specs.Row.{valid, checked}
+use Rattle.rows.specs.Handler.{entryAt, leftBreaks, rightBreaks, judged, handler}
+use Rattle.rows.specs.Handler2.{nextDelta, matched, handler2}
+use Rattle.rows.specs.Prefix.{rowsOf}
+use Rattle.lookup.specs.Field.{word}
+use Rattle.lookup.specs.Header.{stride, chunkAt, faulty, headAt}
+use Rattle.lookup.specs.Record.{startAt, endAt, addressOf, handlersOf, recordAt, recordAt2, recordOf, holds, badRecord}
+use Rattle.lookup.specs.Tables.{chunksFrom, chunks, records}
+use Rattle.lookup.specs.Search as Lookup
+use Rattle.lookup.specs.Search.{halve, leftMeets, rightMeets, settle}
+use Rattle.lookup.specs.Lookup.{gate, searchIn, lookup}
+use Rattle.lookup.proofs.Tested.{soundTest}
+use Rattle.personality.specs.Reason as Reason
+use Rattle.personality.specs.Reason.{rowless, rowAfter, installed, searchedCode}
+use Rattle.model.specs.FrameStep.{callerFile, notAdvancing, past, frameStep}
+use Rattle.model.specs.Search.{search}
+use Rattle.model.specs.Cleanup.{installPad, clean}
+use Rattle.model.specs.Unwinding.{opened, raise, resume}
+use Rattle.model.specs.Machine.{Fresh, column, isRegister, value, inside, meet, put, written}
+use Rattle.model.specs.Described.{layoutAt, samePairs, goodFp, fits, described}
+use Rattle.model.specs.Event.{pushes, calling, keptBy, newFrame, notSpNorPc, callAllowed, entered, spillAllowed, changeAllowed, reloadAllowed, writeAllowed}
+use Rattle.model.specs.Throw.{throwAllowed, rows1, rows2, rowsIn, rowOf}
+use Rattle.model.specs.Sound.{wholeTable, goodTable, goodFrame}
+use Rattle.model.specs.Expected.{padOf, outcome, due}
+use Rattle.model.specs.Demand.{answerOf, current, raisedBy, unwindingOf}
+use Rattle.model.proofs.Rules.{toldRight}
+use Rattle.model.proofs.Runs.{Holds, fresh-tested, holds-reported}
+use Rattle.model.proofs.RunsAarch64 as Aarch64
+use Rattle.model.proofs.RunsX86 as X86
+
+-- the machines that the stories begin with are fresh
+pub aarch64-fresh : Fresh Aarch64.start
+unfolding bounded apart opens isKnown
+aarch64-fresh = fresh-tested Aarch64.start refl refl refl refl refl refl
+
+pub x86-fresh : Fresh X86.start
+unfolding bounded apart opens isKnown
+x86-fresh = fresh-tested X86.start refl refl refl refl refl refl
+
+-- every story holds
+pub aarch64-stories : Holds Aarch64.caught × Holds Aarch64.terminated × Holds Aarch64.uncaught × Holds Aarch64.atEntry
+unfolding bounded apart opens Place.holds bytesAt load byteAt ulebAt numbers isKnown columnOf get set overfull entry save formOf decode frameRegs follow act run savedPairs fpPair raSlot badFp loadSlot applyAt apply pastTable leafCfa fpCfa spCfa frameCfa returnAddress setReturn setFrame setCaller stepAt Step.step readAs passes valid checked entryAt leftBreaks rightBreaks judged handler nextDelta matched handler2 rowsOf word stride chunkAt faulty headAt startAt endAt addressOf handlersOf recordAt recordAt2 recordOf holds badRecord chunksFrom chunks records halve leftMeets rightMeets settle Lookup.search gate searchIn lookup soundTest rowless rowAfter installed searchedCode Reason.rowOf callerFile notAdvancing past frameStep search installPad clean opened raise resume column isRegister value inside meet put written layoutAt samePairs goodFp fits described pushes calling keptBy newFrame notSpNorPc callAllowed entered spillAllowed changeAllowed reloadAllowed writeAllowed throwAllowed rows1 rows2 rowsIn rowOf wholeTable goodTable goodFrame padOf outcome due answerOf current raisedBy unwindingOf
+aarch64-stories = (
+  holds-reported Aarch64.caught aarch64-fresh refl (λ exception. refl),
+  holds-reported Aarch64.terminated aarch64-fresh refl (λ exception. refl),
+  holds-reported Aarch64.uncaught aarch64-fresh refl (λ exception. refl),
+  holds-reported Aarch64.atEntry aarch64-fresh refl (λ exception. refl),
+)
+
+pub x86-stories : Holds X86.caught × Holds X86.terminated × Holds X86.uncaught × Holds X86.inLeaf
+unfolding bounded apart opens Place.holds bytesAt load byteAt ulebAt numbers isKnown columnOf get set overfull entry save formOf decode frameRegs follow act run savedPairs fpPair raSlot badFp loadSlot applyAt apply pastTable leafCfa fpCfa spCfa frameCfa returnAddress setReturn setFrame setCaller stepAt Step.step readAs passes valid checked entryAt leftBreaks rightBreaks judged handler nextDelta matched handler2 rowsOf word stride chunkAt faulty headAt startAt endAt addressOf handlersOf recordAt recordAt2 recordOf holds badRecord chunksFrom chunks records halve leftMeets rightMeets settle Lookup.search gate searchIn lookup soundTest rowless rowAfter installed searchedCode Reason.rowOf callerFile notAdvancing past frameStep search installPad clean opened raise resume column isRegister value inside meet put written layoutAt samePairs goodFp fits described pushes calling keptBy newFrame notSpNorPc callAllowed entered spillAllowed changeAllowed reloadAllowed writeAllowed throwAllowed rows1 rows2 rowsIn rowOf wholeTable goodTable goodFrame padOf outcome due answerOf current raisedBy unwindingOf
+x86-stories = (
+  holds-reported X86.caught x86-fresh refl (λ exception. refl),
+  holds-reported X86.terminated x86-fresh refl (λ exception. refl),
+  holds-reported X86.uncaught x86-fresh refl (λ exception. refl),
+  holds-reported X86.inLeaf x86-fresh refl (λ exception. refl),
+)
+
+-- the events of the first story of each are within the rules or against them, as it tells
+pub told-right : (toldRight Aarch64.start (Aarch64.caught .told) ≡ true) × (toldRight X86.start (X86.caught .told) ≡ true)
+unfolding bounded apart opens Place.holds bytesAt load byteAt ulebAt numbers isKnown columnOf get set overfull entry save formOf decode frameRegs follow act run savedPairs fpPair raSlot badFp loadSlot applyAt apply pastTable leafCfa fpCfa spCfa frameCfa returnAddress setReturn setFrame setCaller stepAt Step.step readAs passes valid checked entryAt leftBreaks rightBreaks judged handler nextDelta matched handler2 rowsOf word stride chunkAt faulty headAt startAt endAt addressOf handlersOf recordAt recordAt2 recordOf holds badRecord chunksFrom chunks records halve leftMeets rightMeets settle Lookup.search gate searchIn lookup soundTest rowless rowAfter installed searchedCode Reason.rowOf callerFile notAdvancing past frameStep search installPad clean opened raise resume column isRegister value inside meet put written layoutAt samePairs goodFp fits described pushes calling keptBy newFrame notSpNorPc callAllowed entered spillAllowed changeAllowed reloadAllowed writeAllowed throwAllowed rows1 rows2 rowsIn rowOf wholeTable goodTable goodFrame padOf outcome due answerOf current raisedBy unwindingOf
+told-right = (refl, refl)

@@ -1,0 +1,107 @@
+-- Document 01's number and values for each case of this crate's answers.
+use mathlib.Core.Bool.{Bool}
+use mathlib.Core.List.{List}
+use Prim.Native.Nat.{ℕ}
+use Rattle.failure.specs.Outcome as Outcome
+use Rattle.failure.specs.Outcome.{Outcome, Answer}
+use Rattle.arch.specs.declared.Regs.{Regs}
+use Rattle.model.specs.declared.Unwinding.{Unwinding}
+use Rattle.model.specs.FrameStep as Walk
+use Rattle.model.specs.FrameStep.{Frame, Step}
+use Rattle.model.specs.Search as Search
+use Rattle.model.specs.Search.{Searched}
+use Rattle.model.specs.Cleanup as Cleanup
+use Rattle.model.specs.Cleanup.{Cleaned}
+use Rattle.model.specs.Unwinding as Unwinding
+use Rattle.model.specs.Unwinding.{frame0, raised, resumed}
+use Rattle.model.specs.Call.{after}
+use Rattle.mem.specs.Memory.{Lent}
+use Rattle.unwind.specs.declared.Walked.the-variants as walked
+use Rattle.unwind.specs.declared.Stepped.{Stepped}
+use Rattle.unwind.specs.declared.RaiseAnswer.{RaiseAnswer}
+use Rattle.unwind.specs.declared.RaiseAnswer.the-variants as raise
+use Rattle.unwind.specs.declared.Raised.{Raised}
+use Rattle.unwind.specs.declared.ResumeAnswer.{ResumeAnswer}
+use Rattle.unwind.specs.declared.ResumeAnswer.the-variants as resume
+use Rattle.unwind.specs.declared.Resumed.{Resumed}
+use Rattle.unwind.specs.declared.Unwound.{Unwound}
+
+-- a frame as the code takes it
+abbrev pub frameAt : ℕ → Bool → Regs → Frame
+frameAt number interrupted regs = record { number = number; interrupted = interrupted; file = regs .r }
+
+-- the frame that a step hands back
+abbrev pub callerOf : Stepped → Frame
+callerOf s = frameAt (s .number) (s .interrupted) (s .regs)
+
+-- a step: past the frame it hands back the caller's, otherwise the frame that came in
+abbrev pub stepped : Frame → Outcome Step → Stepped
+stepped f (Outcome.Refused n) =
+    record { answer = walked.Refused n; number = f .number; interrupted = f .interrupted; regs = record { r = f .file } }
+stepped f (Answer Walk.End) =
+    record { answer = walked.End; number = f .number; interrupted = f .interrupted; regs = record { r = f .file } }
+stepped f (Answer (Walk.Past r next)) =
+    record { answer = walked.Past r; number = next .number; interrupted = next .interrupted; regs = record { r = next .file } }
+
+-- what a search comes to
+abbrev pub searched : RaiseAnswer → Outcome Searched
+searched (raise.Chosen number sp) = Answer (Search.Chosen number sp)
+searched raise.Stopped = Answer Search.Stopped
+searched raise.Ended = Answer Search.Ended
+searched (raise.Refused n) = Outcome.Refused n
+
+-- the same from document 01's side
+abbrev pub raiseOf : Outcome Searched → RaiseAnswer
+raiseOf (Outcome.Refused n) = raise.Refused n
+raiseOf (Answer (Search.Chosen number sp)) = raise.Chosen number sp
+raiseOf (Answer Search.Stopped) = raise.Stopped
+raiseOf (Answer Search.Ended) = raise.Ended
+
+-- a throw from a frame 0, with the unwinding that it hands back
+abbrev pub raisedBy : Frame → ℕ → Outcome Searched → Raised
+raisedBy f exception o = record { answer = raiseOf o; unwinding = raised f exception o }
+
+-- what a sweep call comes to
+abbrev pub resumeOf : Outcome Cleaned → ResumeAnswer
+resumeOf (Outcome.Refused n) = resume.Refused n
+resumeOf (Answer (Cleanup.Install number file next)) = resume.Install number
+resumeOf (Answer Cleanup.Fatal) = resume.Fatal
+resumeOf (Answer Cleanup.Finished) = resume.Finished
+
+-- the file at the landing's pad; otherwise the one that came in
+abbrev pub fileOf : List ℕ → Outcome Cleaned → List ℕ
+fileOf old (Outcome.Refused n) = old
+fileOf old (Answer (Cleanup.Install number file next)) = file
+fileOf old (Answer Cleanup.Fatal) = old
+fileOf old (Answer Cleanup.Finished) = old
+
+-- a sweep call of an unwinding, with the unwinding that it hands back
+abbrev pub resumedBy : Unwinding → Outcome Cleaned → Resumed
+resumedBy u o = record { answer = resumeOf o; regs = record { r = fileOf (u .regs .r) o }; unwinding = resumed u o }
+
+-- an answer beside the unwinding that came in
+abbrev pub unmoved : ResumeAnswer → Unwinding → Resumed
+unmoved answer u = record { answer = answer; regs = u .regs; unwinding = u }
+
+-- the outcome that an answer tells of: for a landing with the file at the pad, and the frame that the unwinding goes on from
+abbrev pub cleanedAs : ResumeAnswer → List ℕ → Frame → Outcome Cleaned
+cleanedAs (resume.Install number) file next = Answer (Cleanup.Install number file next)
+cleanedAs resume.Fatal file next = Answer Cleanup.Fatal
+cleanedAs resume.Finished file next = Answer Cleanup.Finished
+cleanedAs (resume.Refused n) file next = Outcome.Refused n
+
+abbrev pub cleaned : Resumed → Outcome Cleaned
+cleaned r = cleanedAs (r .answer) (r .regs .r) (Unwinding.frameOf (r .unwinding))
+
+-- call number n of resume, counted from 0
+abbrev pub callNumber : ℕ → Lent → ℕ → Unwinding → Resumed
+callNumber n l arch u = resumedBy (after n l arch u) (Unwinding.resume l arch (after n l arch u))
+
+-- a throw, and call number n after it
+abbrev pub unwoundBy : ℕ → Lent → ℕ → List ℕ → ℕ → Bool → ℕ → Unwound
+unwoundBy n l arch file pc interrupted exception =
+    record {
+      raised = raiseOf (Unwinding.raise l arch file pc interrupted);
+      resumed =
+          callNumber n l arch (raised (frame0 file pc interrupted) exception (Unwinding.raise l arch file pc interrupted));
+    }

@@ -1,0 +1,3 @@
+-- What the functions answer, and what a turn of a loop comes to.
+pub mod Answers
+pub mod Turns

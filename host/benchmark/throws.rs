@@ -1,0 +1,146 @@
+//! Walks and throws. The Rust has no raise and no resume: its lookup, step and personality go from frame to frame in the two
+//! phases, as document 01 says.
+use ps_unwind::abi::{Cursor, UA_CLEANUP_PHASE, UA_SEARCH_PHASE, URC_CONTINUE_UNWIND, URC_HANDLER_FOUND, URC_INSTALL_CONTEXT};
+use ps_unwind::arch;
+use ps_unwind::eko::{self, Record};
+use ps_unwind::frame::{FrameInfo, Kind};
+
+use crate::stacks::{STACKS, bytes, section, stack};
+use crate::timing::measure_over;
+use crate::{ANSWERED, NONE, PC_COLUMN, Regs, Unwinding, X86_64, address, file, raw};
+
+const EXCEPTION: usize = 99;
+const MOST_FRAMES: usize = 1024;
+
+/// A frame's number, pc and sp.
+type Place = (usize, usize, usize);
+
+/// A section, stacks with the registers of their innermost frames, and the same registers as we have them.
+struct Case {
+    section: Vec<u8>,
+    stacks: Vec<(Vec<usize>, arch::Regs)>,
+    files: Vec<Regs>,
+}
+
+/// A walk over so many frames, a throw that the outermost catches, and all its landings.
+pub fn all(version: u8, frames: usize) {
+    let (section, first) = section(version);
+    let stacks: Vec<_> = (0..STACKS).map(|number| stack(frames, first, number)).collect();
+    let files = stacks.iter().map(|(_, regs)| file(regs)).collect();
+    let case = Case { section, stacks, files };
+    let name = |what| format!("{what} {frames} frames, version {version}");
+    measure_over(STACKS, &name("walk"), |i| case.rust_walk(i), |i| case.walk(i), |rust, ours| rust == ours);
+    measure_over(STACKS, &name("raise"), |i| case.rust_raise(i), |i| case.raise(i), |rust, ours| {
+        (ours.status, ours.reason, ours.number, ours.sp) == (ANSWERED, URC_HANDLER_FOUND, rust.0, rust.1)
+    });
+    let chosen: Vec<_> = (0..STACKS).map(|i| case.rust_raise(i)).collect();
+    let unwindings: Vec<_> = (0..STACKS).map(|i| case.raise(i).unwinding).collect();
+    let rust = |i: usize| case.rust_resume(i, chosen[i]);
+    measure_over(STACKS, &name("resume"), rust, |i| case.resume(i, unwindings[i]), |rust, ours| rust == ours);
+}
+
+fn place(number: usize, regs: &arch::Regs) -> Place {
+    (number, regs.pc, regs.sp())
+}
+
+/// Every frame told so far, in short.
+fn told(so_far: Place, next: Place) -> Place {
+    (so_far.0 + next.0, so_far.1.rotate_left(7) ^ next.1, so_far.2.rotate_left(7) ^ next.2)
+}
+
+impl Case {
+    /// The frame step: the record and the caller's registers, none past the last frame.
+    fn rust_step(&self, number: usize, regs: &arch::Regs) -> Option<(Record, arch::Regs)> {
+        if regs.pc == 0 {
+            return None;
+        }
+        assert!(number < MOST_FRAMES);
+        let at = regs.pc - 1;
+        let record = eko::lookup(address(&self.section), self.section.len(), at).ok()??;
+        let caller = match record.kind() {
+            Kind::Eko(frame) => eko::step(frame, regs, false),
+            Kind::Eko2 { program, limit } => eko::step2(program, limit, at - record.start, regs),
+        };
+        let caller = caller.ok()?;
+        assert!(caller.sp() > regs.sp() || number == 0 && caller.sp() == regs.sp());
+        Some((record, caller))
+    }
+
+    fn rust_walk(&self, i: usize) -> Place {
+        let (mut regs, mut number, mut frames) = (self.stacks[i].1, 0, (0, 0, 0));
+        while let Some((_, caller)) = self.rust_step(number, &regs) {
+            frames = told(frames, place(number, &regs));
+            (regs, number) = (caller, number + 1);
+        }
+        frames
+    }
+
+    /// The chosen frame's number and sp.
+    fn rust_raise(&self, i: usize) -> (usize, usize) {
+        let (mut regs, mut number) = (self.stacks[i].1, 0);
+        while let Some((record, caller)) = self.rust_step(number, &regs) {
+            if decide(UA_SEARCH_PHASE, &record, &mut regs) == URC_HANDLER_FOUND {
+                return (number, regs.sp());
+            }
+            (regs, number) = (caller, number + 1);
+        }
+        unreachable!("the outermost frame catches")
+    }
+
+    /// All landings up to the chosen frame.
+    fn rust_resume(&self, i: usize, chosen: (usize, usize)) -> Place {
+        let (mut regs, mut number, mut landings) = (self.stacks[i].1, 0, (0, 0, 0));
+        while number <= chosen.0 {
+            let (record, caller) = self.rust_step(number, &regs).expect("a frame up to the chosen one");
+            assert!(number < chosen.0 || regs.sp() == chosen.1);
+            match decide(UA_CLEANUP_PHASE, &record, &mut regs) {
+                URC_INSTALL_CONTEXT => landings = told(landings, place(number, &regs)),
+                reason => assert_eq!(reason, URC_CONTINUE_UNWIND),
+            }
+            (regs, number) = (caller, number + 1);
+        }
+        landings
+    }
+
+    fn walk(&self, i: usize) -> Place {
+        let stack = bytes(&self.stacks[i].0);
+        let (mut regs, mut number, mut frames) = (self.files[i], 0, (0, 0, 0));
+        loop {
+            let next = lend!(eko_next_frame, &self.section, stack, X86_64, number, false, regs);
+            if next.status != ANSWERED {
+                assert_eq!(next.status, NONE);
+                return frames;
+            }
+            frames = told(frames, (number, regs.r[PC_COLUMN], regs.r[7]));
+            (regs, number) = (next.regs, next.number);
+        }
+    }
+
+    fn raise(&self, i: usize) -> raw::Raised {
+        let (stack, regs) = (bytes(&self.stacks[i].0), self.files[i]);
+        lend!(eko_raise, &self.section, stack, X86_64, regs, regs.r[PC_COLUMN], false, EXCEPTION)
+    }
+
+    fn resume(&self, i: usize, mut unwinding: Unwinding) -> Place {
+        let (stack, mut landings) = (bytes(&self.stacks[i].0), (0, 0, 0));
+        loop {
+            let next = lend!(eko_resume, &self.section, stack, X86_64, unwinding);
+            if next.status != ANSWERED {
+                assert_eq!(next.status, NONE);
+                return landings;
+            }
+            assert_eq!(next.reason, URC_INSTALL_CONTEXT);
+            landings = told(landings, (next.number, next.regs.r[PC_COLUMN], next.regs.r[7]));
+            unwinding = next.unwinding;
+        }
+    }
+}
+
+/// The personality of a frame. For a landing the registers become those at the pad.
+fn decide(phase: u32, record: &Record, regs: &mut arch::Regs) -> u32 {
+    let info = FrameInfo { start: record.start, eko_handlers: record.handlers, kind: record.kind() };
+    let mut cursor = Cursor { regs: *regs, info, ip_before_insn: false };
+    let reason = eko::personality(phase, EXCEPTION as *mut _, &mut cursor).expect("no frame is refused");
+    *regs = cursor.regs;
+    reason
+}

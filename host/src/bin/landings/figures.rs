@@ -1,0 +1,78 @@
+//! What a run counts.
+
+#[derive(Default)]
+pub struct Figures {
+    pub throws: usize,
+    pub interrupts: usize,
+    /// By the answer: 3, 5, 6.
+    pub answers: [usize; 7],
+    pub landings: usize,
+    /// Those whose pc is a sum that wraps.
+    pub wrapped: usize,
+    pub finished: usize,
+    /// Irregular calls that were refused, and others, which do not count.
+    pub irregular: usize,
+    pub uncounted: usize,
+    pub walks: usize,
+    /// Events within and against the rules.
+    pub events: usize,
+    pub refused: usize,
+    /// Throws that are not compared, since the section is not sound for an open frame.
+    pub unsound: usize,
+    pub frames: usize,
+    pub version1: usize,
+    pub on_fp: usize,
+    /// Frames with fp as base that have not saved it: their caller had set it.
+    pub given_fp: usize,
+    /// Frames with the return address in its register alone.
+    pub unsaved: usize,
+    pub machines: usize,
+    pub depths: [usize; BOUNDS.len()],
+    pub deepest: usize,
+    pub most_landings: usize,
+}
+
+/// The most frames of each line of the histogram.
+pub const BOUNDS: [usize; 8] = [1, 4, 16, 64, 256, 512, 1023, 1024];
+
+impl Figures {
+    pub fn depth(&mut self, depth: usize) {
+        let line = BOUNDS.iter().position(|bound| depth <= *bound).expect("at most 1,024 frames");
+        self.depths[line] += 1;
+        self.deepest = self.deepest.max(depth);
+    }
+
+    pub fn print(&self, name: &str) {
+        println!("{name}: {} throws, no difference", self.throws);
+        let lines = [
+            ("of them interrupts", self.interrupts),
+            ("chosen", self.answers[6]),
+            ("ended in 3", self.answers[3]),
+            ("ended in 5", self.answers[5]),
+            ("landings", self.landings),
+            ("of them at a pc that wraps", self.wrapped),
+            ("most landings of a throw", self.most_landings),
+            ("finished", self.finished),
+            ("irregular calls refused", self.irregular),
+            ("irregular calls not counted", self.uncounted),
+            ("walks", self.walks),
+            ("open frames at the throws", self.frames),
+            ("of them version 1", self.version1),
+            ("of them with fp as base", self.on_fp),
+            ("of them with fp as base, not saved", self.given_fp),
+            ("of them with the return register unsaved", self.unsaved),
+            ("machines", self.machines),
+            ("events within the rules", self.events),
+            ("events against the rules", self.refused),
+            ("throws in a section that is not sound", self.unsound),
+        ];
+        for (what, count) in lines {
+            println!("  {what:<40} {count:>12}");
+        }
+        let mut from = 1;
+        for (bound, count) in BOUNDS.iter().zip(self.depths) {
+            println!("  {:<40} {count:>12}", format!("depth {from} to {bound}"));
+            from = bound + 1;
+        }
+    }
+}

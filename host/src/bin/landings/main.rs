@@ -1,0 +1,125 @@
+//! `landings [THROWS [SEED]]`: random throws of document 01's call machine, unwound by the library. The machine, written here a
+//! second time from the paper, says what each throw and each resume call must answer (demand 3).
+mod check;
+mod driver;
+mod expected;
+mod figures;
+mod function;
+mod irregular;
+mod machine;
+mod numbers;
+mod program;
+mod random;
+#[allow(dead_code)]
+#[path = "../../raw.rs"]
+mod raw;
+mod rows;
+mod section;
+mod state;
+
+use std::process::ExitCode;
+
+use check::Check;
+use driver::Driver;
+use expected::expected;
+use figures::Figures;
+use function::Code;
+use machine::{Machine, Throw};
+use morthwyga::{Record, Regs, State, Unwinding};
+use numbers::{Numbers, PC};
+use random::Random;
+use section::Section;
+
+fn main() -> ExitCode {
+    let argument = |n, default| std::env::args().nth(n).map_or(Some(default), |word| word.parse().ok());
+    let (Some(throws), Some(seed)) = (argument(1, 1000), argument(2, 0)) else {
+        eprintln!("usage: landings [THROWS [SEED]]");
+        return ExitCode::from(2);
+    };
+    for (name, numbers) in [("aarch64", &numbers::AARCH64), ("x86-64", &numbers::X86_64)] {
+        let mut figures = Figures::default();
+        let mut machine = 0;
+        while figures.throws < throws {
+            if let Err(difference) = run(numbers, (seed << 32) + machine, &mut figures) {
+                println!("{name}, machine {machine} of seed {seed}: {difference}");
+                return ExitCode::FAILURE;
+            }
+            machine += 1;
+        }
+        figures.print(name);
+    }
+    ExitCode::SUCCESS
+}
+
+/// One machine, with throws on the way from its first frame to its last.
+fn run(numbers: &'static Numbers, seed: usize, figures: &mut Figures) -> Result<(), String> {
+    let mut random = Random::new(seed as u64);
+    let frames = match random.below(100) {
+        0..60 => random.within(1, 12),
+        60..85 => random.within(1, 90),
+        85..96 => random.within(1, 500),
+        _ => 1024,
+    };
+    let section = Section::random(numbers, &mut random, frames);
+    figures.machines += 1;
+    let machine = driver::fresh(&section, &mut random, frames);
+    let mut driver = Driver { machine, random: &mut random, figures };
+    for _ in 0..frames {
+        if !driver.call(false) {
+            break;
+        }
+        let deep = driver.machine.open.len() == frames;
+        if deep || driver.random.below(frames) < 10 {
+            fork(&mut driver)?;
+        }
+    }
+    Ok(())
+}
+
+/// A throw from a copy of the machine, or from one with another frame in it.
+fn fork(driver: &mut Driver) -> Result<(), String> {
+    let mut branch = Driver { machine: driver.machine.clone(), random: driver.random, figures: driver.figures };
+    if branch.random.once_in(2) {
+        branch.call(true);
+    }
+    match branch.throw() {
+        Some(throw) => compare(&branch.machine, throw, branch.random, branch.figures),
+        None => Ok(()),
+    }
+}
+
+fn compare(machine: &Machine, throw: Throw, random: &mut Random, figures: &mut Figures) -> Result<(), String> {
+    let Some(expected) = expected(machine, throw) else {
+        figures.unsound += 1;
+        return Ok(());
+    };
+    let check = Check { machine, throw, expected: &expected, exception: random.value() };
+    let checked = check.throw(random, figures);
+    checked.map_err(|difference| format!("{difference}\n{}", check.request()))?;
+    if random.once_in(4) {
+        check.walk().map_err(|difference| format!("{difference}\n{}", check.request()))?;
+        figures.walks += 1;
+    }
+    count(machine, throw, &expected, figures);
+    Ok(())
+}
+
+fn count(machine: &Machine, throw: Throw, expected: &expected::Expected, figures: &mut Figures) {
+    figures.throws += 1;
+    figures.interrupts += throw.interrupted as usize;
+    figures.answers[check::code(&expected.answer)] += 1;
+    figures.landings += expected.landings.len();
+    figures.wrapped += expected.landings.iter().filter(|landing| landing.wraps).count();
+    figures.most_landings = figures.most_landings.max(expected.landings.len());
+    figures.depth(machine.open.len());
+    for frame in machine.frames(throw) {
+        let (numbers, function) = (machine.numbers(), &machine.section.functions[frame.open.function]);
+        let at = frame.file[PC] - !frame.interrupted as usize;
+        let state = function.state(numbers, frame.interrupted, at - function.start);
+        figures.frames += 1;
+        figures.version1 += matches!(function.code, Code::Word(_)) as usize;
+        figures.on_fp += state.as_ref().is_some_and(|state| state.fp) as usize;
+        figures.given_fp += state.is_some_and(|state| state.fp && !state.saves(numbers.fp)) as usize;
+        figures.unsaved += !frame.open.spilled.iter().any(|(reg, _)| *reg == numbers.ra) as usize;
+    }
+}

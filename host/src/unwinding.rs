@@ -1,0 +1,86 @@
+//! The walk, and the two phases of a throw.
+use crate::{Arch, Failure, Memory, Reason, Record, Regs, answered, optional, raw};
+
+/// A frame of a walk: its number, counted from 0, the innermost; whether it was interrupted; its registers.
+#[derive(Clone, Copy, PartialEq, Eq, Debug)]
+pub struct Frame {
+    pub number: usize,
+    pub interrupted: bool,
+    pub regs: Regs,
+}
+
+/// What a throw comes to.
+#[derive(Clone, Copy, PartialEq, Eq, Debug)]
+pub enum Raised {
+    /// The first frame that catches, by its number and stack pointer.
+    Chosen { number: usize, sp: usize },
+    /// A row that terminates came first (reason 3).
+    Terminated,
+    /// No frame catches (reason 5).
+    EndOfStack,
+}
+
+/// An unwinding between two calls of [`Memory::resume`]: the frame that comes next, the exception, and the chosen frame. Hand
+/// it back as you got it.
+#[derive(Clone, Copy, PartialEq, Eq, Debug)]
+#[repr(C)]
+pub struct Unwinding {
+    pub regs: Regs,
+    pub number: usize,
+    pub interrupted: bool,
+    pub exception: usize,
+    pub chosen: bool,
+    pub chosen_number: usize,
+    pub chosen_sp: usize,
+}
+
+/// What a resume call comes to.
+#[derive(Clone, Copy, PartialEq, Eq, Debug)]
+pub enum Resumed {
+    /// The landing of a frame, by its number: go on with these registers, whose pc is its pad, and resume with `next`.
+    Landing { number: usize, regs: Regs, next: Unwinding },
+    /// A row that terminates lies below the chosen frame (reason 2).
+    Terminated,
+    /// The chosen frame has landed, or none was chosen.
+    Finished,
+}
+
+impl Raised {
+    fn of(a: &raw::Raised) -> Raised {
+        match a.reason {
+            3 => Raised::Terminated,
+            5 => Raised::EndOfStack,
+            _ => Raised::Chosen { number: a.number, sp: a.sp },
+        }
+    }
+}
+
+impl Memory<'_> {
+    /// The record of a frame and its caller; none past the last frame. A walk starts at frame 0 and goes on with each caller.
+    pub fn next_frame(self, arch: Arch, frame: Frame) -> Result<Option<(Record, Frame)>, Failure> {
+        let a = lend!(self, eko_next_frame, arch as u8, frame.number, frame.interrupted, frame.regs);
+        optional(a.status, (a.function, Frame { number: a.number, interrupted: a.interrupted, regs: a.regs }))
+    }
+
+    /// A throw: the search phase from frame 0, which has these registers and this pc. The unwinding goes to [`Memory::resume`];
+    /// where no frame is chosen, or the throw is refused, that has finished at once.
+    pub fn raise(
+        self,
+        arch: Arch,
+        regs: Regs,
+        pc: usize,
+        interrupted: bool,
+        exception: usize,
+    ) -> (Result<Raised, Failure>, Unwinding) {
+        let a = lend!(self, eko_raise, arch as u8, regs, pc, interrupted, exception);
+        (answered(a.status, Raised::of(&a)), a.unwinding)
+    }
+
+    /// The next landing of an unwinding, in the memory that the throw was lent. After a refusal the unwinding is as it was.
+    pub fn resume(self, arch: Arch, unwinding: Unwinding) -> Result<Resumed, Failure> {
+        let a = lend!(self, eko_resume, arch as u8, unwinding);
+        let landing = Resumed::Landing { number: a.number, regs: a.regs, next: a.unwinding };
+        let answer = if a.reason == Reason::InstallContext as u32 { landing } else { Resumed::Terminated };
+        optional(a.status, answer).map(|answer| answer.unwrap_or(Resumed::Finished))
+    }
+}

@@ -1,0 +1,148 @@
+//! Walks and throws through the static library, for x86-64.
+use morthwyga::{Arch, Failure, Frame, Memory, PC_COLUMN, Raised, Regs, Resumed, Unwinding};
+
+const ARCH: Arch = Arch::X86_64;
+const SECTION: usize = 0x1000;
+const STACK: usize = 0x4000;
+const FIRST: usize = 0x9000;
+const EXCEPTION: usize = 77;
+
+/// Programs with rows: entry state, then one row at offset 5, or none.
+const CLEANUP: &[u8] = &[0x00, 1, 5, 4 * 8];
+const CATCH: &[u8] = &[0x00, 1, 5, 4 * 9 + 1];
+const TERMINATE: &[u8] = &[0x00, 1, 5, 2];
+const PLAIN: &[u8] = &[0x00, 0];
+
+/// A chunk with a function of 16 bytes for each of these programs, from FIRST on.
+fn section(programs: &[&[u8]]) -> Vec<u8> {
+    let head = 16 + 12 * programs.len();
+    let length = (head + programs.concat().len()).next_multiple_of(4);
+    let mut words = vec![0x5755_4b45, 0x0001_0202, programs.len() as u32, length as u32];
+    let mut program = head;
+    for (i, bytes) in programs.iter().enumerate() {
+        let field = SECTION + 4 * words.len();
+        words.extend([(FIRST + 16 * i - field) as u32, 16, program as u32 | 1 << 31]);
+        program += bytes.len();
+    }
+    let mut bytes: Vec<u8> = words.into_iter().flat_map(u32::to_le_bytes).chain(programs.concat()).collect();
+    bytes.resize(length, 0);
+    bytes
+}
+
+/// The return address of the call in the i-th function.
+fn ret(i: usize) -> usize {
+    FIRST + 16 * i + 5
+}
+
+fn stack(words: &[usize]) -> Vec<u8> {
+    words.iter().flat_map(|word| word.to_le_bytes()).collect()
+}
+
+fn lend<'a>(section: &'a [u8], stack: &'a [u8]) -> Memory<'a> {
+    Memory { section, section_base: SECTION, stack, stack_base: STACK }
+}
+
+fn regs(sp: usize) -> Regs {
+    let mut regs = Regs { r: std::array::from_fn(|i| 100 + i) };
+    regs.r[7] = sp;
+    regs
+}
+
+fn raise(memory: Memory, interrupted: bool) -> (Result<Raised, Failure>, Unwinding) {
+    memory.raise(ARCH, regs(STACK), ret(0), interrupted, EXCEPTION)
+}
+
+/// The next landing's frame number, pc and sp, and the unwinding after it.
+fn landing(memory: Memory, unwinding: Unwinding) -> ((usize, usize, usize), Unwinding) {
+    let Ok(Resumed::Landing { number, regs, next }) = memory.resume(ARCH, unwinding) else { panic!("no landing") };
+    assert_eq!((regs.r[0], regs.r[1], regs.r[3]), (EXCEPTION, 0, 103));
+    ((number, regs.pc(), regs.r[7]), next)
+}
+
+#[test]
+fn a_walk_gives_every_frame() {
+    let (section, stack) = (section(&[CLEANUP, CATCH, PLAIN]), stack(&[ret(1), ret(2), 0]));
+    let memory = lend(&section, &stack);
+    let mut file = regs(STACK);
+    file.r[PC_COLUMN] = ret(0);
+    let mut frame = Frame { number: 0, interrupted: false, regs: file };
+    for i in 0..3 {
+        assert_eq!((frame.number, frame.regs.pc(), frame.regs.r[7]), (i, ret(i), STACK + 8 * i));
+        let (record, caller) = memory.next_frame(ARCH, frame).unwrap().unwrap();
+        assert_eq!(record.start, FIRST + 16 * i);
+        frame = caller;
+    }
+    assert_eq!(memory.next_frame(ARCH, frame), Ok(None));
+}
+
+#[test]
+fn a_throw_lands_at_each_cleanup_and_then_at_the_catch() {
+    let (section, stack) = (section(&[CLEANUP, PLAIN, CATCH]), stack(&[ret(1), ret(2), 0]));
+    let memory = lend(&section, &stack);
+    let (raised, unwinding) = raise(memory, false);
+    assert_eq!(raised, Ok(Raised::Chosen { number: 2, sp: STACK + 16 }));
+    let (first, unwinding) = landing(memory, unwinding);
+    assert_eq!(first, (0, FIRST + 8, STACK));
+    let (second, unwinding) = landing(memory, unwinding);
+    assert_eq!(second, (2, FIRST + 32 + 9, STACK + 16));
+    assert_eq!(memory.resume(ARCH, unwinding), Ok(Resumed::Finished));
+    assert_eq!(memory.resume(ARCH, unwinding), Ok(Resumed::Finished));
+}
+
+#[test]
+fn an_interrupted_frame_has_no_row() {
+    let (section, stack) = (section(&[CATCH, CATCH]), stack(&[ret(1), 0]));
+    let memory = lend(&section, &stack);
+    let (raised, unwinding) = raise(memory, true);
+    assert_eq!(raised, Ok(Raised::Chosen { number: 1, sp: STACK + 8 }));
+    assert_eq!(landing(memory, unwinding).0, (1, FIRST + 16 + 9, STACK + 8));
+}
+
+#[test]
+fn terminate_stops_a_throw_and_the_end_answers_5() {
+    for (row, answer) in [(TERMINATE, Raised::Terminated), (PLAIN, Raised::EndOfStack)] {
+        let (section, stack) = (section(&[CLEANUP, row]), stack(&[ret(1), 0]));
+        let memory = lend(&section, &stack);
+        let (raised, unwinding) = raise(memory, false);
+        assert_eq!(raised, Ok(answer));
+        assert_eq!(memory.resume(ARCH, unwinding), Ok(Resumed::Finished));
+    }
+}
+
+#[test]
+fn a_terminate_below_the_chosen_frame_answers_2() {
+    let (catch, terminate) = (section(&[PLAIN, CATCH]), section(&[TERMINATE, CATCH]));
+    let stack = stack(&[ret(1), 0]);
+    let (_, unwinding) = raise(lend(&catch, &stack), false);
+    assert_eq!(lend(&terminate, &stack).resume(ARCH, unwinding), Ok(Resumed::Terminated));
+}
+
+#[test]
+fn at_most_1024_frames() {
+    let section = section(&[PLAIN]);
+    for (frames, answer) in [(1024, Ok(Raised::EndOfStack)), (1025, Err(Failure::TooManyFrames))] {
+        let mut words = vec![ret(0); frames];
+        words[frames - 1] = 0;
+        assert_eq!(raise(lend(&section, &stack(&words)), false).0, answer);
+    }
+}
+
+#[test]
+fn sp_rises_past_the_first_frame() {
+    let (section, stack) = (section(&[&[0x40, 0x00, 0]]), stack(&[ret(0)]));
+    let (raised, _) = lend(&section, &stack).raise(ARCH, regs(STACK + 8), ret(0), false, EXCEPTION);
+    assert_eq!(raised, Err(Failure::StackNotAdvancing));
+}
+
+#[test]
+fn another_stack_misses_the_chosen_frame() {
+    let section = section(&[PLAIN, CATCH]);
+    let (right, wrong) = (stack(&[ret(1), 0]), stack(&[0, 0]));
+    let (_, unwinding) = raise(lend(&section, &right), false);
+    assert_eq!(lend(&section, &wrong).resume(ARCH, unwinding), Err(Failure::HandlerFrameMissed));
+    let broken = Memory { stack_base: 0, ..lend(&section, &right) };
+    assert_eq!(broken.resume(ARCH, unwinding), Err(Failure::BadOpening));
+    let other = Unwinding { chosen_sp: 1, ..unwinding };
+    assert_eq!(lend(&section, &right).resume(ARCH, other), Err(Failure::HandlerFrameMissed));
+    assert_eq!(landing(lend(&section, &right), unwinding).0, (1, FIRST + 16 + 9, STACK + 8));
+}

@@ -1,6 +1,8 @@
 -- The cursor (document 01, "The state program": "The byte cursor moves on in place, as `Bytes` does in the Rust"): what is read at
 -- it, and where it stands then. On a refusal it stays where it stood.
 use Prim.Native.Nat.{ℕ, _+_}
+use Rattle.failure.specs.Outcome.{Outcome, Refused, Answer}
+use Rattle.failure.specs.Failure.{BadEkoRecord, OutsideMemory}
 use Rattle.mem.specs.Memory.{Memory}
 use Rattle.leb.specs.Reader.{byteAt, ulebAt}
 use Rattle.leb.specs.declared.Byte.{Byte}
@@ -37,6 +39,13 @@ valueOf (uleb.Is v next) = value.Is v
 valueOf uleb.Limit = value.Limit
 valueOf uleb.TooLarge = value.TooLarge
 valueOf uleb.Outside = value.Outside
+
+-- document 01's number and value for each case of a Value
+abbrev pub numberedValue : Value → Outcome ℕ
+numberedValue (value.Is v) = Answer v
+numberedValue value.Limit = Refused BadEkoRecord
+numberedValue value.TooLarge = Refused BadEkoRecord
+numberedValue value.Outside = Refused OutsideMemory
 
 -- a number with the place after it
 abbrev pub placed : ℕ → Value → Uleb

@@ -1,6 +1,6 @@
-// A cursor over bytes that moves on in place: ps-unwind's `Bytes`.
-// `u8` and `uleb` are for the crates above, which have tested what is lent; so are `byte_from` and `uleb_from`, which make a
-// cursor, read through it and give back its place, and whose callers see no cursor.
+// A cursor over bytes that moves on in place: ps-unwind's `Bytes`, whose `u8` and `uleb` are functions here.
+// `byte_from` and `uleb_from` take a position: they make a cursor and read through it, and `uleb_from` gives back its place, so that
+// their callers see no cursor. All four are for the crates above, which have tested what is lent.
 ghost use mathlib.Core.Path.{_≡_};
 ghost use Rattle.mem.specs.Memory.{lent};
 ghost use Rattle.leb.specs.Reader.{byteAt, ulebAt};
@@ -76,7 +76,10 @@ pub fn u8<'a, 'b>(
 ) -> Byte
     ensures { λ r. ⌜
         (r ≡ Cursor.byteHere (lent (now (section .entry)) «section_base» (now (stack .entry)) «stack_base» .regions) (now (bytes .entry)))
-        × (now (bytes .exit) ≡ Cursor.pastByte (now (bytes .entry)) (Cursor.byteHere (lent (now (section .entry)) «section_base» (now (stack .entry)) «stack_base» .regions) (now (bytes .entry))))
+        ×
+        (now (bytes .exit) ≡
+        Cursor.pastByte (now (bytes .entry))
+        (Cursor.byteHere (lent (now (section .entry)) «section_base» (now (stack .entry)) «stack_base» .regions) (now (bytes .entry))))
         ⌝ }
 {
     let m = byte_moved(
@@ -151,8 +154,13 @@ pub fn uleb<'a, 'b>(
     bytes: &'b mut Bytes,
 ) -> Value
     ensures { λ r. ⌜
-        (r ≡ Cursor.valueOf (Cursor.ulebHere (lent (now (section .entry)) «section_base» (now (stack .entry)) «stack_base» .regions) (now (bytes .entry))))
-        × (now (bytes .exit) ≡ Cursor.past (now (bytes .entry)) (Cursor.ulebHere (lent (now (section .entry)) «section_base» (now (stack .entry)) «stack_base» .regions) (now (bytes .entry))))
+        (r ≡
+        Cursor.valueOf
+        (Cursor.ulebHere (lent (now (section .entry)) «section_base» (now (stack .entry)) «stack_base» .regions) (now (bytes .entry))))
+        ×
+        (now (bytes .exit) ≡
+        Cursor.past (now (bytes .entry))
+        (Cursor.ulebHere (lent (now (section .entry)) «section_base» (now (stack .entry)) «stack_base» .regions) (now (bytes .entry))))
         ⌝ }
 {
     let m = uleb_moved(

@@ -6,12 +6,12 @@ ghost use Rattle.mem.specs.Memory.{lent};
 ghost use Rattle.leb.specs.Reader.{ulebAt, numbered};
 ghost use Rattle.program.specs.Operation as Operation;
 ghost use Rattle.program.specs.Answers.{told, decoded};
+use cursor::byte_from;
+use cursor::uleb_from;
 use failure::BAD_EKO_RECORD;
 use failure::OUTSIDE_MEMORY;
 use leb::Byte;
-use leb::byte_at;
 use leb::folded;
-use leb::uleb_at;
 
 // An operation that sets the rules of the state.
 pub enum Rule {
@@ -135,7 +135,7 @@ pub fn number_at<'a>(
         numbered (ulebAt (lent (now (section .entry)) «section_base» (now (stack .entry)) «stack_base» .regions) limit pos)
         ⌝ }
 {
-    match folded(uleb_at(section, section_base, stack, stack_base, pos, limit)) {
+    match folded(uleb_from(section, section_base, stack, stack_base, pos, limit)) {
         leb::Number::Is(v, next) => Number::Is(v as u32, next),
         leb::Number::Refused(n) => Number::Refused(n),
     }
@@ -201,7 +201,7 @@ pub fn decode<'a>(
         Operation.decode (lent (now (section .entry)) «section_base» (now (stack .entry)) «stack_base» .regions) limit pos
         ⌝ }
 {
-    match byte_at(section, section_base, stack, stack_base, pos, limit) {
+    match byte_from(section, section_base, stack, stack_base, pos, limit) {
         Byte::Is(code) => rest_at(
             section,
             section_base,

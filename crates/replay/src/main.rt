@@ -173,7 +173,18 @@ fn lent_by(words: &[usize; 1024]) -> Ranges
     }
 }
 
-// uleb: what is lent, POS END STATUS V NEXT.
+// A number and the place after it, against STATUS V NEXT at a place of the line.
+fn same_number(words: &[usize; 1024], at: usize, got: Number) -> bool {
+    let status = word(words, at);
+    match got {
+        Number::Is(v, next) => {
+            status == 0 && v == word(words, after(at, 1)) && next == word(words, after(at, 2))
+        }
+        Number::Refused(n) => status == n as usize,
+    }
+}
+
+// uleb: what is lent, POS END STATUS V NEXT. It is read by value and through a cursor.
 fn check_uleb(words: &[usize; 1024]) -> bool {
     let m = lent_by(words);
     let section = m.section;
@@ -181,21 +192,28 @@ fn check_uleb(words: &[usize; 1024]) -> bool {
     let stack = m.stack;
     let k = m.stack_len;
     let rest = m.rest;
-    let got = leb::read_uleb(
+    let pos = word(words, rest);
+    let end = word(words, after(rest, 1));
+    let by_value = leb::read_uleb(
         &section[..n],
         m.section_base,
         &stack[..k],
         m.stack_base,
-        word(words, rest),
-        word(words, after(rest, 1)),
+        pos,
+        end,
     );
-    let status = word(words, after(rest, 2));
-    match got {
-        Number::Is(v, next) => {
-            status == 0 && v == word(words, after(rest, 3)) && next == word(words, after(rest, 4))
-        }
-        Number::Refused(n) => status == n as usize,
+    let moved = leb::folded(cursor::uleb_from(
+        &section[..n],
+        m.section_base,
+        &stack[..k],
+        m.stack_base,
+        pos,
+        end,
+    ));
+    if !same_number(words, after(rest, 2), by_value) {
+        return false;
     }
+    same_number(words, after(rest, 2), moved)
 }
 
 // get: REG FILE STATUS VALUE.

@@ -8,8 +8,8 @@ use Rattle.leb.proofs.Numbers.{small}
 use Rattle.program.proofs.decode.number_at.Statement.{statement}
 use Rattle.program.proofs.decode.number_at.Tie as tie
 
-uleb-at-requires : tie.Need-uleb-at-requires
-uleb-at-requires c κs = search needs
+uleb-from-requires : tie.Need-uleb-from-requires
+uleb-from-requires c κs = search needs
 
 folded-requires : tie.Need-folded-requires
 folded-requires c κs = search needs
@@ -20,7 +20,7 @@ enum-known-v c = search needs
 cast-t13 : tie.Need-cast-t13
 cast-t13 c =
     let at = c .before .before .before in
-    let told = sym (ap Reader.told (c .before .v .given .1)) ∙ at .folded .ensures ∙ ap numbered (at .before .uleb-at .ensures) in
+    let told = sym (ap Reader.told (c .before .v .given .1)) ∙ at .folded .ensures ∙ ap numbered (at .before .uleb-from .ensures) in
     omega (arith, small _ _ _ _ (sym told) .value)
 
 enum-known-n : tie.Need-enum-known-n
@@ -29,18 +29,18 @@ enum-known-n c = search needs
 returns : tie.Need-returns
 returns c =
     let at = c .before .before .before in
-    sym (ap Reader.told (c .before .v .given .1)) ∙ at .folded .ensures ∙ ap numbered (at .before .uleb-at .ensures)
+    sym (ap Reader.told (c .before .v .given .1)) ∙ at .folded .ensures ∙ ap numbered (at .before .uleb-from .ensures)
 
 returns-2 : tie.Need-returns-2
 returns-2 c =
     let at = c .before .before .before in
-    sym (ap Reader.told (c .before .n .given .1)) ∙ at .folded .ensures ∙ ap numbered (at .before .uleb-at .ensures)
+    sym (ap Reader.told (c .before .n .given .1)) ∙ at .folded .ensures ∙ ap numbered (at .before .uleb-from .ensures)
 
 pub number-at-spec : {M : Type 1} → statement M
 number-at-spec =
     tie.close
     (tie.spec
-    uleb-at-requires
+    uleb-from-requires
     folded-requires
     enum-known-v
     cast-t13

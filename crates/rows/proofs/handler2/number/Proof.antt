@@ -5,14 +5,14 @@ use borrow.Author.Needs.{needs}
 use Rattle.rows.proofs.handler2.number.Statement.{statement}
 use Rattle.rows.proofs.handler2.number.Tie as tie
 
-uleb-at-requires : tie.Need-uleb-at-requires
-uleb-at-requires c κs = search needs
+uleb-from-requires : tie.Need-uleb-from-requires
+uleb-from-requires c κs = search needs
 
 folded-requires : tie.Need-folded-requires
 folded-requires c κs = search needs
 
 returns : tie.Need-returns
-returns c = c .folded .ensures ∙ ap numbered (c .before .uleb-at .ensures)
+returns c = c .folded .ensures ∙ ap numbered (c .before .uleb-from .ensures)
 
 pub number-spec : {M : Type 1} → statement M
-number-spec = tie.close (tie.spec uleb-at-requires folded-requires returns)
+number-spec = tie.close (tie.spec uleb-from-requires folded-requires returns)

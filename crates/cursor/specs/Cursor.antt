@@ -1,0 +1,74 @@
+-- The cursor (document 01, "The state program": "The byte cursor moves on in place, as `Bytes` does in the Rust"): what is read at
+-- it, and where it stands then. On a refusal it stays where it stood.
+use Prim.Native.Nat.{ℕ, _+_}
+use Rattle.failure.specs.Outcome.{Outcome, Refused, Answer}
+use Rattle.failure.specs.Failure.{BadEkoRecord, OutsideMemory}
+use Rattle.mem.specs.Memory.{Memory}
+use Rattle.leb.specs.Reader.{byteAt, ulebAt}
+use Rattle.leb.specs.declared.Byte.{Byte}
+use Rattle.leb.specs.declared.Byte.the-variants as byte
+use Rattle.leb.specs.declared.Uleb.{Uleb}
+use Rattle.leb.specs.declared.Uleb.the-variants as uleb
+use Rattle.cursor.specs.declared.Bytes.{Bytes}
+use Rattle.cursor.specs.declared.Moved.{Moved}
+use Rattle.cursor.specs.declared.MovedByte.{MovedByte}
+use Rattle.cursor.specs.declared.Value.{Value}
+use Rattle.cursor.specs.declared.Value.the-variants as value
+
+-- the place after a byte, or the place of a refusal
+abbrev pub placeAfterByte : ℕ → Byte → ℕ
+placeAfterByte pos (byte.Is b) = pos + 1
+placeAfterByte pos byte.Limit = pos
+placeAfterByte pos byte.Outside = pos
+
+-- a byte beside the place after it
+abbrev pub movedByteOf : ℕ → Byte → MovedByte
+movedByteOf pos b = record { byte = b; pos = placeAfterByte pos b }
+
+-- the byte at the cursor
+abbrev pub byteHere : Memory → Bytes → Byte
+byteHere m c = byteAt m (c .end) (c .pos)
+
+-- the cursor past a byte; on a refusal as it was
+abbrev pub pastByte : Bytes → Byte → Bytes
+pastByte c b = record { pos = placeAfterByte (c .pos) b; end = c .end }
+
+-- a number, without the place after it
+abbrev pub valueOf : Uleb → Value
+valueOf (uleb.Is v next) = value.Is v
+valueOf uleb.Limit = value.Limit
+valueOf uleb.TooLarge = value.TooLarge
+valueOf uleb.Outside = value.Outside
+
+-- document 01's number and value for each case of a Value
+abbrev pub numberedValue : Value → Outcome ℕ
+numberedValue (value.Is v) = Answer v
+numberedValue value.Limit = Refused BadEkoRecord
+numberedValue value.TooLarge = Refused BadEkoRecord
+numberedValue value.Outside = Refused OutsideMemory
+
+-- a number with the place after it
+abbrev pub placed : ℕ → Value → Uleb
+placed next (value.Is v) = uleb.Is v next
+placed next value.Limit = uleb.Limit
+placed next value.TooLarge = uleb.TooLarge
+placed next value.Outside = uleb.Outside
+
+-- the place after a number, or the place of a refusal
+abbrev pub placeAfter : ℕ → Uleb → ℕ
+placeAfter pos (uleb.Is v next) = next
+placeAfter pos uleb.Limit = pos
+placeAfter pos uleb.TooLarge = pos
+placeAfter pos uleb.Outside = pos
+
+-- a number beside the place after it
+abbrev pub movedOf : ℕ → Uleb → Moved
+movedOf pos u = record { value = valueOf u; pos = placeAfter pos u }
+
+-- the number at the cursor
+abbrev pub ulebHere : Memory → Bytes → Uleb
+ulebHere m c = ulebAt m (c .end) (c .pos)
+
+-- the cursor past a number; on a refusal as it was
+abbrev pub past : Bytes → Uleb → Bytes
+past c u = record { pos = placeAfter (c .pos) u; end = c .end }

@@ -35,8 +35,3 @@ pub mod Exactly
 pub mod ValidRows
 pub mod Corollaries
 pub mod Promised
-pub mod Rules
-pub mod Runs
-pub mod RunsAarch64
-pub mod RunsX86
-pub mod RunsHold

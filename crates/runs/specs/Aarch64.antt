@@ -1,14 +1,13 @@
--- Closed runs on aarch64: four stories, and what each comes to. Assumes nothing.
+-- Closed runs on aarch64: four stories, and what each comes to.
 use mathlib.Core.List.{List, [], _∷_, _++_}
 use Prim.Native.Nat.{ℕ, _+_}
 use lib.ListN.{replicate}
 use Rattle.model.specs.Search.{Searched, Chosen, Stopped, Ended}
 use Rattle.model.specs.Machine.{Machine}
 use Rattle.model.specs.Event.{Call, Spill, Change, Reload, Move, Write}
 use Rattle.model.specs.Throw.{Throw}
 use Rattle.model.specs.Expected.{LandingPad}
-use Rattle.model.proofs.Rules.{Told, does, against}
-use Rattle.model.proofs.Runs.{Story, throwAt, interruptAt, landing}
+use Rattle.runs.specs.Story.{Told, does, against, Story, throwAt, interruptAt, landing}
 
 -- the section, at address 1000 hexadecimal; its records by chunk and index, each as it is past its first
 -- instructions, with its rows by the addresses that calls return to:

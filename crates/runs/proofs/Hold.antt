@@ -32,21 +32,21 @@ use Rattle.lookup.specs.Lookup.{gate, searchIn, lookup}
 use Rattle.lookup.proofs.Tested.{soundTest}
 use Rattle.personality.specs.Reason as Reason
 use Rattle.personality.specs.Reason.{rowless, rowAfter, installed, searchedCode}
 use Rattle.model.specs.FrameStep.{callerFile, notAdvancing, past, frameStep}
 use Rattle.model.specs.Search.{search}
 use Rattle.model.specs.Cleanup.{installPad, clean}
 use Rattle.model.specs.Unwinding.{opened, raise, resume}
 use Rattle.model.specs.Machine.{Fresh, column, isRegister, value, inside, meet, put, written}
 use Rattle.model.specs.Described.{layoutAt, samePairs, goodFp, fits, described}
 use Rattle.model.specs.Event.{pushes, calling, keptBy, newFrame, notSpNorPc, callAllowed, entered, spillAllowed, changeAllowed, reloadAllowed, writeAllowed}
 use Rattle.model.specs.Throw.{throwAllowed, rows1, rows2, rowsIn, rowOf}
 use Rattle.model.specs.Sound.{wholeTable, goodTable, goodFrame}
 use Rattle.model.specs.Expected.{padOf, outcome, due}
 use Rattle.model.specs.Demand.{answerOf, current, raisedBy, unwindingOf}
-use Rattle.model.proofs.Rules.{toldRight}
-use Rattle.model.proofs.Runs.{Holds, fresh-tested, holds-reported}
-use Rattle.model.proofs.RunsAarch64 as Aarch64
-use Rattle.model.proofs.RunsX86 as X86
+use Rattle.runs.specs.Story.{Holds, toldRight}
+use Rattle.runs.proofs.Runs.{fresh-tested, holds-reported}
+use Rattle.runs.specs.Aarch64 as Aarch64
+use Rattle.runs.specs.X86 as X86
 
 -- the machines that the stories begin with are fresh
 pub aarch64-fresh : Fresh Aarch64.start

@@ -1,4 +1,4 @@
--- Closed runs of the call machine: what a story is, when it holds, and the part of that which is not mere computing. Assumes nothing.
+-- The part of a closed run that is not mere computing. Assumes nothing.
 use mathlib.Core.Bool.{Bool, true, false, _&&_}
 use mathlib.Core.List.{List, [], _∷_}
 use mathlib.Core.Logic.{inl}
@@ -14,66 +14,16 @@ use Rattle.mem.proofs.Tests.{both}
 use Rattle.arch.specs.Arch.{Arch, numbers, isKnown}
 use Rattle.arch.specs.File.{columns}
 use Rattle.lookup.proofs.Tested.{soundTest, sound-tested}
 use Rattle.model.specs.declared.Unwinding.{Unwinding}
 use Rattle.model.specs.Search.{Searched}
 use Rattle.model.specs.Unwinding.{frame0, raised}
 use Rattle.model.specs.Machine.{Machine, Fresh, memory, lentBy}
 use Rattle.model.specs.Event.{steps}
 use Rattle.model.specs.Throw.{Throw, throwAllowed, framesAt}
 use Rattle.model.specs.Sound.{Sound, goodFrames}
 use Rattle.model.specs.Expected.{LandingPad, Given, outcome, due, firstOf}
 use Rattle.model.specs.Demand.{ResumeCall, answerOf, regular, currentBy, current, Admissible, unlessRefused, answers, raisedBy, unwindingOf}
-use Rattle.model.proofs.Rules.{Told, events}
-
--- a story: a machine, the events from there on, a throw or interrupt, its answer, and the landings after it
-pub record Story : Type 0 where
-  pub machine : Machine
-  pub told : List Told
-  pub throw : Throw
-  pub answer : Searched
-  pub landings : List LandingPad
-
--- the throw at a pc, and the interrupt
-abbrev pub throwAt : ℕ → Throw
-throwAt pc = record { pc = pc; interrupted = false }
-
-abbrev pub interruptAt : ℕ → Throw
-interruptAt pc = record { pc = pc; interrupted = true }
-
--- a landing by its frame's number, sp, pc and preserved registers
-abbrev pub landing : ℕ → ℕ → ℕ → List ℕ → LandingPad
-landing number sp pc preserved = record { number = number; sp = sp; pc = pc; preserved = preserved }
-
--- the machine that the throw finds
-abbrev pub reached : Story → Machine
-reached s = steps (s .machine) (events (s .told))
-
--- n regular sweep calls, each with the unwinding that the one before it returned
-abbrev pub regulars : ℕ → Machine → Unwinding → List ResumeCall
-regulars zero m u = []
-regulars (suc n) m u = regular m u ∷ regulars n m (current u (regular m u))
-
--- what so many of them give after a story, for an exception
-abbrev pub answersAfter : Story → ℕ → ℕ → List Given
-answersAfter s exception n =
-    answers (numbers (s .machine .arch)) (regulars n (reached s) (unwindingOf (reached s) (s .throw) exception))
-
--- one more call than there are landings, and yet another
-abbrev pub callsFor : Story → ℕ
-callsFor s = length (s .landings) + 2
-
--- a story holds
-pub record Holds (s : Story) : Type 0 where
-  -- it meets the hypotheses of demand 3
-  pub fresh : Fresh (s .machine)
-  pub allowed : throwAllowed (reached s) (s .throw) ≡ true
-  pub sound : Sound (reached s) (s .throw)
-  -- its answer and its landings are the due ones
-  pub answered : outcome (reached s) (s .throw) ≡ s .answer
-  pub lands : due (reached s) (s .throw) ≡ s .landings
-  -- and `raise` and `resume` give them
-  pub raises : raisedBy (reached s) (s .throw) ≡ Answer (s .answer)
-  pub cleans : (exception : ℕ) → answersAfter s exception (callsFor s) ≡ firstOf (callsFor s) (s .landings)
+use Rattle.runs.specs.Story.{Story, reached, regulars, answersAfter, callsFor, Holds}
 
 -- regular sweep calls are a list that demand 3 speaks of
 pub regulars-admissible : (n : ℕ) (m : Machine) (u : Unwinding) → Admissible m u (regulars n m u)

@@ -1,4 +1,4 @@
--- An event within the rules, by one test; one against them leaves the machine as it was. Assumes nothing.
+-- An event against the rules leaves the machine as it was. Assumes nothing.
 use mathlib.Core.Bool.{Bool, true, false, not, _&&_}
 use mathlib.Core.List.{List, [], _∷_}
 use mathlib.Core.Option.{Option, none, some}
@@ -7,28 +7,10 @@ use lib.Dec.{leb}
 use borrow.Author.Tests.{not-true}
 use Rattle.mem.proofs.Tests.{both}
 use Rattle.lookup.specs.Tables.{Entry, records, named}
 use Rattle.model.specs.Machine.{Open, Machine}
 use Rattle.model.specs.Event.{Event, Call, Spill, Change, Reload, Move, Write, call, spill, change, reload, move, step, steps}
 use Rattle.model.specs.Event.{callAllowed, spillAllowed, changeAllowed, reloadAllowed, writeAllowed}
-
--- there is such a record
-abbrev isThere : Option Entry → Bool
-isThere none = false
-isThere (some e) = true
-
--- there is an innermost frame, and it passes
-abbrev innermost : (Open → Bool) → List Open → Bool
-innermost p [] = false
-innermost p (f ∷ fs) = p f
-
--- an event is within the rules
-abbrev pub within : Machine → Event → Bool
-within m (Call chunk index ret) = isThere (named chunk index (records (m .section .bytes) (m .section .base) (m .arch))) && callAllowed m ret
-within m (Spill reg slot) = innermost (λ f. spillAllowed m f reg slot) (m .frames)
-within m (Change reg v) = innermost (λ f. changeAllowed m f reg v) (m .frames)
-within m (Reload reg) = innermost (λ f. reloadAllowed f reg) (m .frames)
-within m (Move to) = innermost (λ f. leb to (f .cfa)) (m .frames)
-within m (Write x v) = writeAllowed m x v
+use Rattle.runs.specs.Story.{isThere, innermost, within, Told, does, against, events, lawful, toldRight}
 
 -- one that is not leaves the machine as it was
 pub against-leaves : (m : Machine) (e : Event) → within m e ≡ false → step m e ≡ m
@@ -58,27 +40,6 @@ against-leaves m (Move to) h = go (m .frames) h
     go [] h = refl
     go (f ∷ fs) h = rw h
 against-leaves m (Write x v) h = rw h
-
--- an event as it is told: one within the rules, or one against them
-pub data Told : Type 0 where
-  does against : Event → Told
-
--- all events, and those within the rules
-abbrev pub events : List Told → List Event
-events [] = []
-events (does e ∷ ts) = e ∷ events ts
-events (against e ∷ ts) = e ∷ events ts
-
-abbrev pub lawful : List Told → List Event
-lawful [] = []
-lawful (does e ∷ ts) = e ∷ lawful ts
-lawful (against e ∷ ts) = lawful ts
-
--- each event is as it is told to be
-abbrev pub toldRight : Machine → List Told → Bool
-toldRight m [] = true
-toldRight m (does e ∷ ts) = within m e && toldRight (step m e) ts
-toldRight m (against e ∷ ts) = not (within m e) && toldRight m ts
 
 -- then those against the rules might as well not be there
 pub lawful-same : (m : Machine) (ts : List Told) → toldRight m ts ≡ true → steps m (events ts) ≡ steps m (lawful ts)

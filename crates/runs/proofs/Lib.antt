@@ -1,0 +1,4 @@
+-- The stories hold.
+pub mod Rules
+pub mod Runs
+pub mod Hold

@@ -1,0 +1,110 @@
+-- Closed runs of the call machine: what a story is, and when it holds.
+use mathlib.Core.Bool.{Bool, true, false, not, _&&_}
+use mathlib.Core.List.{List, [], _∷_}
+use mathlib.Core.Option.{Option, none, some}
+use mathlib.Core.Path.{_≡_}
+use Prim.Native.Nat.{ℕ, zero, suc, _+_}
+use lib.Dec.{leb}
+use lib.ListN.{length}
+use Rattle.failure.specs.Outcome.{Answer}
+use Rattle.arch.specs.Arch.{numbers}
+use Rattle.lookup.specs.Tables.{Entry, records, named}
+use Rattle.model.specs.declared.Unwinding.{Unwinding}
+use Rattle.model.specs.Search.{Searched}
+use Rattle.model.specs.Machine.{Open, Machine, Fresh}
+use Rattle.model.specs.Event.{Event, Call, Spill, Change, Reload, Move, Write, step, steps}
+use Rattle.model.specs.Event.{callAllowed, spillAllowed, changeAllowed, reloadAllowed, writeAllowed}
+use Rattle.model.specs.Throw.{Throw, throwAllowed}
+use Rattle.model.specs.Sound.{Sound}
+use Rattle.model.specs.Expected.{LandingPad, Given, outcome, due, firstOf}
+use Rattle.model.specs.Demand.{ResumeCall, regular, current, answers, raisedBy, unwindingOf}
+
+-- there is such a record
+abbrev pub isThere : Option Entry → Bool
+isThere none = false
+isThere (some e) = true
+
+-- there is an innermost frame, and it passes
+abbrev pub innermost : (Open → Bool) → List Open → Bool
+innermost p [] = false
+innermost p (f ∷ fs) = p f
+
+-- an event is within the rules
+abbrev pub within : Machine → Event → Bool
+within m (Call chunk index ret) = isThere (named chunk index (records (m .section .bytes) (m .section .base) (m .arch))) && callAllowed m ret
+within m (Spill reg slot) = innermost (λ f. spillAllowed m f reg slot) (m .frames)
+within m (Change reg v) = innermost (λ f. changeAllowed m f reg v) (m .frames)
+within m (Reload reg) = innermost (λ f. reloadAllowed f reg) (m .frames)
+within m (Move to) = innermost (λ f. leb to (f .cfa)) (m .frames)
+within m (Write x v) = writeAllowed m x v
+
+-- an event as it is told: one within the rules, or one against them
+pub data Told : Type 0 where
+  does against : Event → Told
+
+-- all events, and those within the rules
+abbrev pub events : List Told → List Event
+events [] = []
+events (does e ∷ ts) = e ∷ events ts
+events (against e ∷ ts) = e ∷ events ts
+
+abbrev pub lawful : List Told → List Event
+lawful [] = []
+lawful (does e ∷ ts) = e ∷ lawful ts
+lawful (against e ∷ ts) = lawful ts
+
+-- each event is as it is told to be
+abbrev pub toldRight : Machine → List Told → Bool
+toldRight m [] = true
+toldRight m (does e ∷ ts) = within m e && toldRight (step m e) ts
+toldRight m (against e ∷ ts) = not (within m e) && toldRight m ts
+
+-- a story: a machine, the events from there on, a throw or interrupt, its answer, and the landings after it
+pub record Story : Type 0 where
+  pub machine : Machine
+  pub told : List Told
+  pub throw : Throw
+  pub answer : Searched
+  pub landings : List LandingPad
+
+-- the throw at a pc, and the interrupt
+abbrev pub throwAt : ℕ → Throw
+throwAt pc = record { pc = pc; interrupted = false }
+
+abbrev pub interruptAt : ℕ → Throw
+interruptAt pc = record { pc = pc; interrupted = true }
+
+-- a landing by its frame's number, sp, pc and preserved registers
+abbrev pub landing : ℕ → ℕ → ℕ → List ℕ → LandingPad
+landing number sp pc preserved = record { number = number; sp = sp; pc = pc; preserved = preserved }
+
+-- the machine that the throw finds
+abbrev pub reached : Story → Machine
+reached s = steps (s .machine) (events (s .told))
+
+-- n regular sweep calls, each with the unwinding that the one before it returned
+abbrev pub regulars : ℕ → Machine → Unwinding → List ResumeCall
+regulars zero m u = []
+regulars (suc n) m u = regular m u ∷ regulars n m (current u (regular m u))
+
+-- what so many of them give after a story, for an exception
+abbrev pub answersAfter : Story → ℕ → ℕ → List Given
+answersAfter s exception n =
+    answers (numbers (s .machine .arch)) (regulars n (reached s) (unwindingOf (reached s) (s .throw) exception))
+
+-- one more call than there are landings, and yet another
+abbrev pub callsFor : Story → ℕ
+callsFor s = length (s .landings) + 2
+
+-- a story holds
+pub record Holds (s : Story) : Type 0 where
+  -- it meets the hypotheses of demand 3
+  pub fresh : Fresh (s .machine)
+  pub allowed : throwAllowed (reached s) (s .throw) ≡ true
+  pub sound : Sound (reached s) (s .throw)
+  -- its answer and its landings are the due ones
+  pub answered : outcome (reached s) (s .throw) ≡ s .answer
+  pub lands : due (reached s) (s .throw) ≡ s .landings
+  -- and `raise` and `resume` give them
+  pub raises : raisedBy (reached s) (s .throw) ≡ Answer (s .answer)
+  pub cleans : (exception : ℕ) → answersAfter s exception (callsFor s) ≡ firstOf (callsFor s) (s .landings)

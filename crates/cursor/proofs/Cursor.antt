@@ -1,11 +1,17 @@
--- Of a number that is read, the value and the place after it are the whole answer, and the value has its number. Assumes nothing.
+-- Of a number that is read, the value and the place after it are the whole answer, and the value has its number. Past what
+-- does not move it, the cursor is the one that stood there. Assumes nothing.
 use mathlib.Core.Path.{_≡_, refl}
+use mathlib.Core.Bool.{not}
 use Prim.Native.Nat.{ℕ}
+use lib.Dec.{T}
 use Rattle.failure.specs.Outcome.{Answer, _>>=_}
 use Rattle.leb.specs.Reader.{Read, numbered}
+use Rattle.leb.specs.declared.Byte.{Byte}
+use Rattle.leb.specs.declared.Byte.the-variants as byte
 use Rattle.leb.specs.declared.Uleb.{Uleb}
 use Rattle.leb.specs.declared.Uleb.the-variants.{Is, Limit, TooLarge, Outside}
-use Rattle.cursor.specs.Cursor.{valueOf, numberedValue, placed, placeAfter}
+use Rattle.cursor.specs.Cursor.{movesByte, pastByte, valueOf, numberedValue, placed, placeAfter, moves, past}
+use Rattle.cursor.specs.declared.Bytes.{Bytes}
 
 -- the value at the place after it is the answer
 pub together : (pos : ℕ) (u : Uleb) → placed (placeAfter pos u) (valueOf u) ≡ u
@@ -20,3 +26,16 @@ value-told (Is v next) = refl
 value-told Limit = refl
 value-told TooLarge = refl
 value-told Outside = refl
+
+-- where a byte does not move the cursor, the cursor past it is the one that stood there
+pub byte-stays : (c : Bytes) (b : Byte) → T (not (movesByte b)) → c ≡ pastByte c b
+byte-stays c (byte.Is b) z = absurd z
+byte-stays c byte.Limit z = refl
+byte-stays c byte.Outside z = refl
+
+-- and so of a number
+pub number-stays : (c : Bytes) (u : Uleb) → T (not (moves u)) → c ≡ past c u
+number-stays c (Is v next) z = absurd z
+number-stays c Limit z = refl
+number-stays c TooLarge z = refl
+number-stays c Outside z = refl

@@ -1,5 +1,6 @@
 -- The cursor (document 01, "The state program": "The byte cursor moves on in place, as `Bytes` does in the Rust"): what is read at
 -- it, and where it stands then. On a refusal it stays where it stood.
+use mathlib.Core.Bool.{Bool, true, false}
 use Prim.Native.Nat.{ℕ, _+_}
 use Rattle.failure.specs.Outcome.{Outcome, Refused, Answer}
 use Rattle.failure.specs.Failure.{BadEkoRecord, OutsideMemory}
@@ -21,9 +22,15 @@ placeAfterByte pos (byte.Is b) = pos + 1
 placeAfterByte pos byte.Limit = pos
 placeAfterByte pos byte.Outside = pos
 
--- a byte beside the place after it
+-- a byte moves the cursor, a refusal does not
+abbrev pub movesByte : Byte → Bool
+movesByte (byte.Is b) = true
+movesByte byte.Limit = false
+movesByte byte.Outside = false
+
+-- a byte beside the place after it, and whether it moves the cursor
 abbrev pub movedByteOf : ℕ → Byte → MovedByte
-movedByteOf pos b = record { byte = b; pos = placeAfterByte pos b }
+movedByteOf pos b = record { byte = b; pos = placeAfterByte pos b; moved = movesByte b }
 
 -- the byte at the cursor
 abbrev pub byteHere : Memory → Bytes → Byte
@@ -61,9 +68,16 @@ placeAfter pos uleb.Limit = pos
 placeAfter pos uleb.TooLarge = pos
 placeAfter pos uleb.Outside = pos
 
--- a number beside the place after it
+-- a number moves the cursor, a refusal does not
+abbrev pub moves : Uleb → Bool
+moves (uleb.Is v next) = true
+moves uleb.Limit = false
+moves uleb.TooLarge = false
+moves uleb.Outside = false
+
+-- a number beside the place after it, and whether it moves the cursor
 abbrev pub movedOf : ℕ → Uleb → Moved
-movedOf pos u = record { value = valueOf u; pos = placeAfter pos u }
+movedOf pos u = record { value = valueOf u; pos = placeAfter pos u; moved = moves u }
 
 -- the number at the cursor
 abbrev pub ulebHere : Memory → Bytes → Uleb

@@ -24,16 +24,18 @@ pub enum Value {
     Outside,
 }
 
-// A byte beside the position after it, or the position of a refusal.
+// A byte beside the position after it, or the position of a refusal; and whether the cursor moves.
 struct MovedByte {
     byte: Byte,
     pos: usize,
+    moved: bool,
 }
 
-// A number beside the position after it, or the position of a refusal.
+// A number beside the position after it, or the position of a refusal; and whether the cursor moves.
 struct Moved {
     value: Value,
     pos: usize,
+    moved: bool,
 }
 
 // The byte at a position, and where the cursor stands then.
@@ -54,14 +56,17 @@ fn byte_moved<'a>(
         Byte::Is(b) => MovedByte {
             byte: Byte::Is(b),
             pos: pos + 1,
+            moved: true,
         },
         Byte::Limit => MovedByte {
             byte: Byte::Limit,
             pos,
+            moved: false,
         },
         Byte::Outside => MovedByte {
             byte: Byte::Outside,
             pos,
+            moved: false,
         },
     }
 }
@@ -90,7 +95,9 @@ pub fn u8<'a, 'b>(
         bytes.pos,
         bytes.end,
     );
-    bytes.pos = m.pos;
+    if m.moved {
+        bytes.pos = m.pos;
+    }
     m.byte
 }
 
@@ -129,18 +136,22 @@ fn uleb_moved<'a>(
         Uleb::Is(v, next) => Moved {
             value: Value::Is(v),
             pos: next,
+            moved: true,
         },
         Uleb::Limit => Moved {
             value: Value::Limit,
             pos,
+            moved: false,
         },
         Uleb::TooLarge => Moved {
             value: Value::TooLarge,
             pos,
+            moved: false,
         },
         Uleb::Outside => Moved {
             value: Value::Outside,
             pos,
+            moved: false,
         },
     }
 }
@@ -171,7 +182,9 @@ pub fn uleb<'a, 'b>(
         bytes.pos,
         bytes.end,
     );
-    bytes.pos = m.pos;
+    if m.moved {
+        bytes.pos = m.pos;
+    }
     m.value
 }
 

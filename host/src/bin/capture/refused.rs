@@ -1,19 +1,18 @@
 //! One capture for each refusal that a throw can meet.
 use crate::format::{Capture, Sample};
-use crate::section::{CATCH, Framed, Function, RETURN, Row, SECTION, STACK, chunk1, chunk2, ret};
+use crate::section::{CATCHES, Framed, Function, PAD, RETURN, SECTION, STACK, chunk1, chunk2, ret};
+use morthwyga::{Action, Arch, Regs};
 
-const CATCHES: &[Row] = &[(RETURN as u32, 0x30, CATCH)];
-
-/// Two x86-64 functions that keep their return address alone on the stack. The first, which throws, has this program; the second
-/// catches. Nothing is wrong with it if the program is END.
+/// Two x86-64 functions whose frames are their return addresses alone. The first, which throws, has this program; the second
+/// catches. With END as the program it is not refused.
 fn two(program: &'static [u8]) -> Capture {
     let functions = [Function { program, rows: &[] }, Function { program: &[0x00], rows: CATCHES }];
-    let mut regs = [0; 41];
-    regs[7] = STACK;
+    let mut regs = Regs { r: [0; 41] };
+    regs.r[7] = STACK;
     Capture {
-        arch: 2,
+        arch: Arch::X86_64,
         section_base: SECTION,
-        section: chunk2(2, SECTION, 0, &functions),
+        section: chunk2(Arch::X86_64, SECTION, 0, &functions),
         stack_base: STACK,
         stack: stack(&[ret(1), 0]),
         regs,
@@ -23,13 +22,17 @@ fn two(program: &'static [u8]) -> Capture {
     }
 }
 
-fn stack(words: &[u64]) -> Vec<u8> {
+fn good() -> Capture {
+    two(&[0x00])
+}
+
+fn stack(words: &[usize]) -> Vec<u8> {
     words.iter().flat_map(|word| word.to_le_bytes()).collect()
 }
 
 /// The capture with a register set.
-fn with(mut capture: Capture, column: usize, value: u64) -> Capture {
-    capture.regs[column] = value;
+fn with(mut capture: Capture, column: usize, value: usize) -> Capture {
+    capture.regs.r[column] = value;
     capture
 }
 
@@ -39,46 +42,45 @@ fn damaged(mut capture: Capture, at: usize, byte: u8) -> Capture {
     capture
 }
 
-/// The program claims that the call takes nothing off the stack: frame 1 has frame 0's sp, and so has its caller.
-fn not_advancing() -> Capture {
-    let capture = two(&[0x40, 0x00]);
-    with(Capture { stack: stack(&[ret(0), 0]), ..capture }, 7, STACK + 8)
+/// The program says that a frame takes no room, and the function called itself: frame 1 has frame 0's sp, and so has its caller.
+fn same_sp() -> Capture {
+    let capture = Capture { stack: stack(&[ret(0), 0]), ..two(&[0x40, 0x00]) };
+    with(capture, 7, STACK + 8)
 }
 
 /// The function that throws has two rows for one return offset.
 fn two_rows() -> Capture {
-    let rows = &[(RETURN as u32, 0x30, CATCH), (RETURN as u32, 0x38, CATCH)];
-    let section = chunk2(2, SECTION, 0, &[Function { program: &[0x00], rows }]);
-    Capture { section, ..two(&[0x00]) }
+    let rows = &[(RETURN, PAD, Action::Catch), (RETURN, PAD + 8, Action::Catch)];
+    Capture { section: chunk2(Arch::X86_64, SECTION, 0, &[Function { program: &[0x00], rows }]), ..good() }
 }
 
 /// A version 1 word that describes the frame at its calls only, and an interrupt.
 fn interrupted() -> Capture {
-    let section = chunk1(2, SECTION, 0, &[Framed { word: 1, rows: CATCHES }]);
-    Capture { section, interrupted: true, ..two(&[0x00]) }
+    let section = chunk1(Arch::X86_64, SECTION, 0, &[Framed { word: 1, rows: CATCHES }]);
+    Capture { section, interrupted: true, ..good() }
 }
 
 /// 1,025 open calls of one function.
 fn frames() -> Capture {
     let mut words = [ret(0); 1025];
     words[1024] = 0;
-    Capture { stack: stack(&words), ..two(&[0x00]) }
+    Capture { stack: stack(&words), ..good() }
 }
 
 pub fn samples() -> Vec<Sample> {
     let samples = [
         ("refused-10-five-remembers", two(&[0xc7, 0xc7, 0xc7, 0xc7, 0xc7, 0x00])),
         ("refused-11-register-99", two(&[0xc4, 99, 1, 0x00])),
-        ("refused-12-cfa-0", with(two(&[0x00]), 7, 8u64.wrapping_neg())),
-        ("refused-17-unknown-flags", damaged(two(&[0x00]), 6, 3)),
+        ("refused-12-cfa-0", with(good(), 7, 8usize.wrapping_neg())),
+        ("refused-17-unknown-flags", damaged(good(), 6, 3)),
         ("refused-18-unknown-operation", two(&[0xd0, 0x00])),
-        ("refused-19-records-overlap", damaged(two(&[0x00]), 20, 0x48)),
-        ("refused-20-same-sp", not_advancing()),
+        ("refused-19-records-overlap", damaged(good(), 20, 0x48)),
+        ("refused-20-same-sp", same_sp()),
         ("refused-23-odd-frame-pointer", with(two(&[0xc9, 0x00]), 6, STACK + 1)),
         ("refused-24-two-rows-for-a-call", two_rows()),
         ("refused-25-interrupt-in-a-call-frame", interrupted()),
-        ("refused-27-sp-outside-the-stack", with(two(&[0x00]), 7, STACK + 0x1000)),
-        ("refused-28-section-at-0", Capture { section_base: 0, ..two(&[0x00]) }),
+        ("refused-27-sp-outside-the-stack", with(good(), 7, STACK + 0x1000)),
+        ("refused-28-section-at-0", Capture { section_base: 0, ..good() }),
         ("refused-29-1025-frames", frames()),
     ];
     samples.into_iter().map(|(name, capture)| (name, capture.bytes())).collect()

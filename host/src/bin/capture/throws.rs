@@ -1,15 +1,17 @@
 //! Throws that are not refused.
 use crate::format::{Capture, Sample};
 use crate::job::Job;
-use crate::section::{CATCH, CLEANUP, Framed, Function, RETURN, SECTION, TERMINATE, chunk1, chunk2, ret, start};
+use crate::section::{CATCHES, CLEANS, Framed, Function, Row, SECTION, TERMINATES, chunk1, chunk2, ret, start};
+use morthwyga::Arch;
 
-/// Sets up the frame pointer after 4 bytes.
+/// After 4 bytes the frame pointer is set up.
 const ENTER: &[u8] = &[0x04, 0xc9, 0x00];
 
-/// The same, and after 2 bytes more register 3 is saved in slot 3 and register 12 in slot 4.
+/// After 2 more register 3 is saved in slot 3 and register 12 in slot 4.
 const ENTER_AND_SAVE: &[u8] = &[0x04, 0xc9, 0x02, 0x83, 3, 0x8c, 4, 0x00];
 
 /// On aarch64: after 1 instruction the frame pointer, after 1 more registers 19 and 20.
+const ENTER_AARCH64: &[u8] = &[0x01, 0xc9, 0x00];
 const ENTER_AND_SAVE_AARCH64: &[u8] = &[0x01, 0xc9, 0x01, 0x93, 3, 0x94, 4, 0x00];
 
 /// Version 1: registers 3 and 13 below the frame pointer, in slots 3 and 4.
@@ -18,31 +20,27 @@ const SAVED_BELOW_FP: u32 = 1 | 0b101 << 3 | 3 << 21;
 /// Version 1, without frame pointer: 32 bytes in all, register 3 in slot 2.
 const SAVED_BY_SP: u32 = 2 | 0b1 << 3 | 2 << 21;
 
-const AT: u32 = RETURN as u32;
-const CATCHES: &[(u32, u32, u32)] = &[(AT, 0x30, CATCH)];
-const CLEANS: &[(u32, u32, u32)] = &[(AT, 0x30, CLEANUP)];
-const TERMINATES: &[(u32, u32, u32)] = &[(AT, 0, TERMINATE)];
+/// A function's second call returns to this offset and has no row.
+const SECOND: usize = 0x1c;
 
-/// The second call of a function returns here and has no row.
-const SECOND: u64 = 0x1c;
-
-/// Eight frames, six functions, two chunks. A function calls itself twice, from two places.
-fn deep() -> Capture {
-    let mut section = chunk2(
-        2,
-        SECTION,
-        0,
-        &[
-            Function { program: ENTER, rows: CATCHES },
-            Function { program: ENTER_AND_SAVE, rows: CLEANS },
-            Function { program: ENTER_AND_SAVE, rows: CLEANS },
-            Function { program: &[0x00], rows: &[] },
-        ],
-    );
-    let at = SECTION + section.len() as u64;
+/// Six functions in two chunks, one of each version.
+fn deep_section() -> Vec<u8> {
+    let functions = [
+        Function { program: ENTER, rows: CATCHES },
+        Function { program: ENTER_AND_SAVE, rows: CLEANS },
+        Function { program: ENTER_AND_SAVE, rows: CLEANS },
+        Function { program: &[0x00], rows: &[] },
+    ];
     let framed = [Framed { word: SAVED_BELOW_FP, rows: CLEANS }, Framed { word: SAVED_BY_SP, rows: &[] }];
-    section.extend(chunk1(2, at, 4, &framed));
-    let mut job = Job::new(2);
+    let mut section = chunk2(Arch::X86_64, SECTION, 0, &functions);
+    let at = SECTION + section.len();
+    section.extend(chunk1(Arch::X86_64, at, 4, &framed));
+    section
+}
+
+/// Eight frames: functions 0, 4, 1, then 2, which calls itself from two places, then 5 and 3.
+fn deep() -> Capture {
+    let mut job = Job::new(Arch::X86_64);
     job.call(0);
     job.enter();
     job.room(2);
@@ -65,53 +63,48 @@ fn deep() -> Capture {
     job.room(2);
     job.set(3, 0xb2);
     job.call(ret(5));
-    job.throw(section, ret(3))
+    job.throw(deep_section(), ret(3))
 }
 
-/// Four frames on aarch64: two cleanups, a function without row, a catch.
+/// Four frames on aarch64: a catch, a cleanup, no row, a cleanup.
 fn aarch64() -> Capture {
-    let section = chunk2(
-        1,
-        SECTION,
-        0,
-        &[
-            Function { program: &[0x01, 0xc9, 0x00], rows: CATCHES },
-            Function { program: ENTER_AND_SAVE_AARCH64, rows: CLEANS },
-            Function { program: &[0x01, 0xc9, 0x00], rows: &[] },
-            Function { program: ENTER_AND_SAVE_AARCH64, rows: CLEANS },
-        ],
-    );
-    let mut job = Job::new(1);
+    let functions = [
+        Function { program: ENTER_AARCH64, rows: CATCHES },
+        Function { program: ENTER_AND_SAVE_AARCH64, rows: CLEANS },
+        Function { program: ENTER_AARCH64, rows: &[] },
+        Function { program: ENTER_AND_SAVE_AARCH64, rows: CLEANS },
+    ];
+    let mut job = Job::new(Arch::Aarch64);
     for (i, back) in [0, ret(0), ret(1), ret(2)].into_iter().enumerate() {
         job.call(back);
         job.enter();
         if i % 2 == 1 {
             job.save(19);
             job.save(20);
-            job.set(19, 0x1900 + i as u64);
-            job.set(20, 0x2000 + i as u64);
+            job.set(19, 0x1900 + i);
+            job.set(20, 0x2000 + i);
         }
     }
-    job.throw(section, ret(3))
+    job.throw(chunk2(Arch::Aarch64, SECTION, 0, &functions), ret(3))
 }
 
-/// Three frames that set up the frame pointer; the outermost has these rows, the middle one a cleanup.
-fn three(rows: &'static [(u32, u32, u32)]) -> Capture {
+/// Three frames: the outermost has these rows, the middle one cleans up, the innermost would catch.
+fn three(rows: &'static [Row]) -> Capture {
     let functions = [
         Function { program: ENTER, rows },
         Function { program: ENTER, rows: CLEANS },
         Function { program: ENTER, rows: CATCHES },
     ];
-    let mut job = Job::new(2);
+    let mut job = Job::new(Arch::X86_64);
     for back in [0, ret(0), ret(1)] {
         job.call(back);
         job.enter();
     }
-    job.throw(chunk2(2, SECTION, 0, &functions), ret(2))
+    job.throw(chunk2(Arch::X86_64, SECTION, 0, &functions), ret(2))
 }
 
-/// The innermost function is called from the middle one, and has no row at this place.
-fn thrown_in_second(rows: &'static [(u32, u32, u32)]) -> Capture {
+/// The same, thrown where the innermost has no row.
+fn thrown_elsewhere(rows: &'static [Row]) -> Capture {
     Capture { pc: start(2) + SECOND, ..three(rows) }
 }
 
@@ -119,8 +112,8 @@ pub fn samples() -> Vec<Sample> {
     vec![
         ("cleanups-and-catch", deep().bytes()),
         ("cleanups-and-catch-aarch64", aarch64().bytes()),
-        ("terminate", thrown_in_second(TERMINATES).bytes()),
-        ("no-catch", thrown_in_second(&[]).bytes()),
+        ("terminate", thrown_elsewhere(TERMINATES).bytes()),
+        ("no-catch", thrown_elsewhere(&[]).bytes()),
         ("interrupt", Capture { interrupted: true, ..three(CATCHES) }.bytes()),
     ]
 }

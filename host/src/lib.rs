@@ -33,32 +33,51 @@
 //! assert_eq!((regs.pc(), regs.r[0]), (0x5008, 77));
 //! assert_eq!(memory.resume(Arch::X86_64, next), Ok(Resumed::Finished));
 //! ```
+//!
+//! [`Memory::capture`] writes the arguments of a throw to a file, to be looked at later.
+#![warn(missing_docs)]
 mod raw;
 
 /// An architecture, by the number that an EKO section names it with.
 #[derive(Clone, Copy, PartialEq, Eq, Debug)]
 #[repr(u8)]
 pub enum Arch {
+    /// 64-bit Arm.
     Aarch64 = 1,
+    /// 64-bit x86.
     X86_64 = 2,
 }
 
 /// Why a call was refused.
 #[derive(Clone, Copy, PartialEq, Eq, Debug)]
 pub enum Failure {
+    /// 10: a state program remembers a fifth state.
     RememberStackOverflow,
+    /// 11: a register number that the architecture does not have.
     UnknownRegister,
+    /// 12: the canonical frame address is 0.
     BadCfaRule,
+    /// 17: a chunk's header is wrong: magic, version, architecture, flags or size.
     BadEkoHeader,
+    /// 18: a record, frame word, state program or row is malformed or cut short.
     BadEkoRecord,
+    /// 19: a record overlaps its neighbour.
     EkoUnsorted,
+    /// 20: a caller's sp is lower than its callee's, or equal past the first frame.
     StackNotAdvancing,
+    /// 22: the cleanup phase does not find the chosen frame as the search phase left it.
     HandlerFrameMissed,
+    /// 23: fp is the base and is 0 or no multiple of 8.
     Misaligned,
+    /// 24: rows do not rise strictly, so that a return offset may have two.
     EkoAmbiguousCallSite,
+    /// 25: an interrupted frame has a version 1 word that describes call sites only.
     EkoAsyncFrame,
+    /// 27: the bytes to be read lie whole in neither slice.
     OutsideMemory,
+    /// 28: the opening rule is broken, or a state counts more than 32 pairs.
     BadOpening,
+    /// 29: 1,024 frames were given and the stack goes on.
     TooManyFrames,
 }
 
@@ -100,6 +119,7 @@ pub const PC_COLUMN: usize = 40;
 #[derive(Clone, Copy, PartialEq, Eq, Debug)]
 #[repr(C)]
 pub struct Regs {
+    /// The values, by column.
     pub r: [usize; 41],
 }
 
@@ -107,8 +127,11 @@ pub struct Regs {
 #[derive(Clone, Copy, PartialEq, Eq, Debug)]
 #[repr(C)]
 pub struct Record {
+    /// Where the function starts.
     pub start: usize,
+    /// Where it ends.
     pub end: usize,
+    /// Version 1: the frame word. Version 2: 0.
     pub frame: u32,
     /// Address of the row table, 0 where there is none. Version 2: of the program that it follows.
     pub handlers: usize,
@@ -116,6 +139,7 @@ pub struct Record {
     pub program: usize,
     /// Version 2: the chunk's end. Version 1: 0.
     pub limit: usize,
+    /// The version of the chunk, 1 or 2.
     pub version: u8,
 }
 
@@ -124,10 +148,15 @@ pub struct Record {
 #[derive(Clone, Copy, PartialEq, Eq, Debug)]
 #[repr(C)]
 pub struct State {
+    /// The base is fp, and not sp.
     pub cfa_fp: bool,
+    /// How far above the base CFA lies, in units of 8 bytes.
     pub cfa_units: u32,
+    /// How many registers are saved.
     pub count: usize,
+    /// Their DWARF numbers.
     pub regs: [u16; 32],
+    /// Their slots.
     pub slots: [u16; 32],
 }
 
@@ -135,15 +164,20 @@ pub struct State {
 #[derive(Clone, Copy, PartialEq, Eq, Debug)]
 #[repr(usize)]
 pub enum Action {
+    /// The pad cleans up, and the unwinding goes on.
     Cleanup = 0,
+    /// The pad catches: the unwinding ends there.
     Catch = 1,
+    /// Nothing may be thrown through this call; there is no pad.
     Terminate = 2,
 }
 
 /// A row of a frame: its landing pad, from the start of its function, and what it asks for.
 #[derive(Clone, Copy, PartialEq, Eq, Debug)]
 pub struct Row {
+    /// How far the pad lies above the function's start; 0 for terminate.
     pub pad: usize,
+    /// What it asks for.
     pub action: Action,
 }
 
@@ -162,7 +196,9 @@ impl Row {
 /// The two phases of an unwinding.
 #[derive(Clone, Copy, PartialEq, Eq, Debug)]
 pub enum Phase {
+    /// Which frame catches.
     Search,
+    /// The landings up to it.
     Cleanup,
 }
 
@@ -170,10 +206,15 @@ pub enum Phase {
 #[derive(Clone, Copy, PartialEq, Eq, Debug)]
 #[repr(u32)]
 pub enum Reason {
+    /// A row terminates in the cleanup phase.
     FatalPhase2Error = 2,
+    /// A row terminates in the search phase.
     FatalPhase1Error = 3,
+    /// The frame catches.
     HandlerFound = 6,
+    /// The frame's pad is to be run with the registers that go with this.
     InstallContext = 7,
+    /// The frame has nothing to do.
     ContinueUnwind = 8,
 }
 
@@ -272,9 +313,13 @@ impl State {
 /// What is lent: the bytes of an EKO section and of a stack, each with the address of its first byte.
 #[derive(Clone, Copy, Debug)]
 pub struct Memory<'a> {
+    /// The bytes of the section.
     pub section: &'a [u8],
+    /// The address of its first byte.
     pub section_base: usize,
+    /// The bytes of the stack.
     pub stack: &'a [u8],
+    /// The address of its first byte.
     pub stack_base: usize,
 }
 
@@ -294,6 +339,7 @@ macro_rules! lend {
     }};
 }
 
+mod capture;
 mod unwinding;
 pub use unwinding::{Frame, Raised, Resumed, Unwinding};
 

@@ -4,8 +4,11 @@ use crate::{Arch, Failure, Memory, Reason, Record, Regs, answered, optional, raw
 /// A frame of a walk: its number, counted from 0, the innermost; whether it was interrupted; its registers.
 #[derive(Clone, Copy, PartialEq, Eq, Debug)]
 pub struct Frame {
+    /// 0 for the innermost.
     pub number: usize,
+    /// Only the innermost can be.
     pub interrupted: bool,
+    /// With its pc.
     pub regs: Regs,
 }
 
@@ -13,7 +16,12 @@ pub struct Frame {
 #[derive(Clone, Copy, PartialEq, Eq, Debug)]
 pub enum Raised {
     /// The first frame that catches, by its number and stack pointer.
-    Chosen { number: usize, sp: usize },
+    Chosen {
+        /// Its number.
+        number: usize,
+        /// Its stack pointer.
+        sp: usize,
+    },
     /// A row that terminates came first (reason 3).
     Terminated,
     /// No frame catches (reason 5).
@@ -25,12 +33,19 @@ pub enum Raised {
 #[derive(Clone, Copy, PartialEq, Eq, Debug)]
 #[repr(C)]
 pub struct Unwinding {
+    /// The registers of the frame that comes next.
     pub regs: Regs,
+    /// Its number.
     pub number: usize,
+    /// Whether it was interrupted.
     pub interrupted: bool,
+    /// The exception, which every landing gets in register 0.
     pub exception: usize,
+    /// Whether a frame was chosen.
     pub chosen: bool,
+    /// Its number.
     pub chosen_number: usize,
+    /// Its stack pointer.
     pub chosen_sp: usize,
 }
 
@@ -38,7 +53,14 @@ pub struct Unwinding {
 #[derive(Clone, Copy, PartialEq, Eq, Debug)]
 pub enum Resumed {
     /// The landing of a frame, by its number: go on with these registers, whose pc is its pad, and resume with `next`.
-    Landing { number: usize, regs: Regs, next: Unwinding },
+    Landing {
+        /// The frame's number.
+        number: usize,
+        /// The registers at its pad.
+        regs: Regs,
+        /// The unwinding past the frame.
+        next: Unwinding,
+    },
     /// A row that terminates lies below the chosen frame (reason 2).
     Terminated,
     /// The chosen frame has landed, or none was chosen.

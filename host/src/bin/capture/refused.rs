@@ -1,0 +1,87 @@
+//! One capture for each refusal that a throw can meet.
+use crate::format::{Capture, Sample};
+use crate::section::{CATCHES, Framed, Function, PAD, RETURN, SECTION, STACK, chunk1, chunk2, ret};
+use morthwyga::{Action, Arch, Regs};
+
+/// Two x86-64 functions whose frames are their return addresses alone. The first, which throws, has this program; the second
+/// catches. With END as the program it is not refused.
+fn two(program: &'static [u8]) -> Capture {
+    let functions = [Function { program, rows: &[] }, Function { program: &[0x00], rows: CATCHES }];
+    let mut regs = Regs { r: [0; 41] };
+    regs.r[7] = STACK;
+    Capture {
+        arch: Arch::X86_64,
+        section_base: SECTION,
+        section: chunk2(Arch::X86_64, SECTION, 0, &functions),
+        stack_base: STACK,
+        stack: stack(&[ret(1), 0]),
+        regs,
+        pc: ret(0),
+        interrupted: false,
+        exception: 0xe0_0001,
+    }
+}
+
+fn good() -> Capture {
+    two(&[0x00])
+}
+
+fn stack(words: &[usize]) -> Vec<u8> {
+    words.iter().flat_map(|word| word.to_le_bytes()).collect()
+}
+
+/// The capture with a register set.
+fn with(mut capture: Capture, column: usize, value: usize) -> Capture {
+    capture.regs.r[column] = value;
+    capture
+}
+
+/// The capture with a byte of its section set.
+fn damaged(mut capture: Capture, at: usize, byte: u8) -> Capture {
+    capture.section[at] = byte;
+    capture
+}
+
+/// The program says that a frame takes no room, and the function called itself: frame 1 has frame 0's sp, and so has its caller.
+fn same_sp() -> Capture {
+    let capture = Capture { stack: stack(&[ret(0), 0]), ..two(&[0x40, 0x00]) };
+    with(capture, 7, STACK + 8)
+}
+
+/// The function that throws has two rows for one return offset.
+fn two_rows() -> Capture {
+    let rows = &[(RETURN, PAD, Action::Catch), (RETURN, PAD + 8, Action::Catch)];
+    Capture { section: chunk2(Arch::X86_64, SECTION, 0, &[Function { program: &[0x00], rows }]), ..good() }
+}
+
+/// A version 1 word that describes the frame at its calls only, and an interrupt.
+fn interrupted() -> Capture {
+    let section = chunk1(Arch::X86_64, SECTION, 0, &[Framed { word: 1, rows: CATCHES }]);
+    Capture { section, interrupted: true, ..good() }
+}
+
+/// 1,025 open calls of one function.
+fn frames() -> Capture {
+    let mut words = [ret(0); 1025];
+    words[1024] = 0;
+    Capture { stack: stack(&words), ..good() }
+}
+
+pub fn samples() -> Vec<Sample> {
+    let samples = [
+        ("refused-10-five-remembers", two(&[0xc7, 0xc7, 0xc7, 0xc7, 0xc7, 0x00])),
+        ("refused-11-register-99", two(&[0xc4, 99, 1, 0x00])),
+        ("refused-12-cfa-0", with(good(), 7, 8usize.wrapping_neg())),
+        ("refused-17-unknown-flags", damaged(good(), 6, 3)),
+        ("refused-18-unknown-operation", two(&[0xd0, 0x00])),
+        ("refused-19-records-overlap", damaged(good(), 20, 0x48)),
+        ("refused-20-same-sp", same_sp()),
+        ("refused-23-odd-frame-pointer", with(two(&[0xc9, 0x00]), 6, STACK + 1)),
+        ("refused-24-two-rows-for-a-call", two_rows()),
+        ("refused-25-interrupt-in-a-call-frame", interrupted()),
+        ("refused-27-sp-outside-the-stack", with(good(), 7, STACK + 0x1000)),
+        ("refused-28-section-at-0", Capture { section_base: 0, ..good() }),
+        ("refused-29-1025-frames", frames()),
+    ];
+    samples.into_iter().map(|(name, capture)| (name, capture.bytes())).collect()
+}

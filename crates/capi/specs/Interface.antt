@@ -33,7 +33,9 @@ use Rattle.unwind.specs.declared.Raised as unwind-raise
 use Rattle.unwind.specs.declared.ResumeAnswer.{ResumeAnswer}
 use Rattle.unwind.specs.declared.ResumeAnswer.the-variants as resume
 use Rattle.unwind.specs.declared.Resumed as unwind-resume
-use Rattle.personality.specs.Reason.{fatalPhase1, fatalPhase2, handlerFound, installContext}
+use Rattle.model.specs.Search as search-phase
+use Rattle.model.specs.Cleanup as cleanup-phase
+use Rattle.model.specs.Unwinding.{frameOf}
 use Rattle.leb.specs.Reader as Reader
 use Rattle.rows.specs.Row as Row
 use Rattle.rows.specs.Row.{Pad}
@@ -141,15 +143,12 @@ steppedBy number interrupted regs (walked.Refused n) = unstepped n number interr
 abbrev pub stepped : unwind-step.Stepped → Stepped
 stepped s = steppedBy (s .number) (s .interrupted) (s .regs) (s .answer)
 
--- the reason of a search that comes to the end of the stack
-abbrev pub endOfStack : ℕ
-endOfStack = 5
-
 -- a throw, by its answer: reason 6 with the chosen frame's number and sp, 3 or 5
 abbrev pub raisedBy : Unwinding → RaiseAnswer → Raised
-raisedBy u (raise.Chosen number sp) = record { status = 0; reason = handlerFound; number = number; sp = sp; unwinding = u }
-raisedBy u raise.Stopped = record { status = 0; reason = fatalPhase1; number = 0; sp = 0; unwinding = u }
-raisedBy u raise.Ended = record { status = 0; reason = endOfStack; number = 0; sp = 0; unwinding = u }
+raisedBy u (raise.Chosen number sp) =
+    record { status = 0; reason = search-phase.reasonOf (search-phase.Chosen number sp); number = number; sp = sp; unwinding = u }
+raisedBy u raise.Stopped = record { status = 0; reason = search-phase.reasonOf search-phase.Stopped; number = 0; sp = 0; unwinding = u }
+raisedBy u raise.Ended = record { status = 0; reason = search-phase.reasonOf search-phase.Ended; number = 0; sp = 0; unwinding = u }
 raisedBy u (raise.Refused n) = record { status = n; reason = 0; number = 0; sp = 0; unwinding = u }
 
 abbrev pub raised : unwind-raise.Raised → Raised
@@ -158,8 +157,14 @@ raised r = raisedBy (r .unwinding) (r .answer)
 -- a sweep call, by its answer: reason 7 with the landing's frame number, or 2; none where it is finished
 abbrev pub resumedBy : Regs → Unwinding → ResumeAnswer → Resumed
 resumedBy regs u (resume.Install number) =
-    record { status = 0; reason = installContext; number = number; regs = regs; unwinding = u }
-resumedBy regs u resume.Fatal = record { status = 0; reason = fatalPhase2; number = 0; regs = regs; unwinding = u }
+    record {
+      status = 0;
+      reason = cleanup-phase.reasonOf (cleanup-phase.Install number (regs .r) (frameOf u));
+      number = number;
+      regs = regs;
+      unwinding = u;
+    }
+resumedBy regs u resume.Fatal = record { status = 0; reason = cleanup-phase.reasonOf cleanup-phase.Fatal; number = 0; regs = regs; unwinding = u }
 resumedBy regs u resume.Finished = record { status = 1; reason = 0; number = 0; regs = regs; unwinding = u }
 resumedBy regs u (resume.Refused n) = record { status = n; reason = 0; number = 0; regs = regs; unwinding = u }
 

@@ -1,105 +1,266 @@
--- Laws of the sweep, turn by turn, and of a sweep call. Assumes nothing.
+-- Laws of the cleanup phase, turn by turn, and of a call of resume. Assumes nothing.
 use mathlib.Core.Path.{_≡_, refl, sym, _∙_, ap}
 use mathlib.Core.Bool.{Bool, true, false, _&&_}
+use mathlib.Core.List.{List}
 use Prim.Native.Nat.{ℕ, zero, suc, _+_, _≤_, _<_}
 use native.Mathlib.Omega.{arith}
-use borrow.Author.Tests.{lt-ltb, le-ltb}
+use lib.Dec.{eqb, ltb}
+use lib.ListN.{getD}
+use borrow.Author.Tests.{eq-eqb, ne-eqb, lt-ltb, le-ltb}
 use Rattle.failure.specs.Choice.{if_then_else_}
 use Rattle.failure.specs.Outcome as Outcome
 use Rattle.failure.specs.Outcome.{Outcome, Answer, _>>=_}
 use Rattle.mem.specs.Memory.{Memory, Lent}
 use Rattle.mem.specs.Opening.{opens}
-use Rattle.arch.specs.Arch.{isKnown}
+use Rattle.arch.specs.Arch.{Arch, numbers, isKnown}
+use Rattle.arch.specs.File.{sp, pc}
+use Rattle.arch.specs.declared.Regs.{Regs}
+use Rattle.rows.specs.Row as Row
+use Rattle.rows.specs.Row.{Found}
+use Rattle.lookup.specs.declared.Record.{Record}
+use Rattle.personality.specs.Reason.{Reason, rowOf, installed}
+use Rattle.personality.specs.Answers.{decided}
+use Rattle.personality.specs.declared.Code.the-variants as code
+use Rattle.personality.specs.declared.Decided.{Decided}
 use Rattle.model.specs.declared.Unwinding.{Unwinding}
-use Rattle.model.specs.FrameStep.{Frame, Step, frameStep}
+use Rattle.model.specs.FrameStep as Walk
+use Rattle.model.specs.FrameStep.{Frame, Step, callerOf, frameStep}
 use Rattle.model.specs.Cleanup as Cleanup
-use Rattle.model.specs.Cleanup.{cleanAt, cleanFrom, clean}
+use Rattle.model.specs.Cleanup.{Choice, Cleaned, installPad, byRow, cleanAt, cleanFrom, clean}
 use Rattle.model.specs.Unwinding.{frameOf, choiceOf, goingOn, resume}
-use Rattle.unwind.specs.Answers.{callerOf, unmoved, resumedBy}
-use Rattle.unwind.specs.Turns.{cleanOr, Cleans}
+use Rattle.unwind.specs.Answers.{unmoved, resumedBy}
+use Rattle.unwind.specs.Turns.{Seen, End, Rowless, WithRow, seenAs, seenAt, seen, meeting, cleanRow, cleanMet, installAt, cleanOr}
+use Rattle.unwind.specs.declared.Met.{Met}
+use Rattle.unwind.specs.declared.Met.the-variants as met
 use Rattle.unwind.specs.declared.ResumeAnswer.the-variants as answer
+use Rattle.unwind.specs.declared.Resumed.{Resumed}
 use Rattle.unwind.specs.declared.Cleaning.{Cleaning}
 use Rattle.unwind.specs.declared.Cleaning.the-variants.{On, Install, Fatal, Refused}
-use Rattle.unwind.specs.declared.Cleaned.{Cleaned}
-use Rattle.unwind.proofs.Stepping.{step-told, Passes, on-passes}
+use Rattle.unwind.proofs.Meeting.{seen-below}
 use Rattle.unwind.proofs.Opened.{closed-28, open-passes}
 
--- what a sweep from an unwinding's frame on comes to
-abbrev pub cleanedFrom : ℕ → ℕ → Memory → Unwinding → Outcome Cleanup.Cleaned
-cleanedFrom n arch m u = cleanFrom n arch m (u .exception) (choiceOf u) (frameOf u)
+module _ (start pad action : ℕ) where
+  -- a cleanup below the chosen number lands
+  pub below-cleanup : action ≡ 0 → Install start pad ≡ cleanRow true false start pad action
+  unfolding cleanRow
+  below-cleanup e = rw (eq-eqb action 0 e)
 
--- the sweep of an unwinding has come to another one, which differs in its frame only; the fuel left is enough for the frames that may
--- still be given
-pub record UnderWay (arch : ℕ) (m : Memory) (first u : Unwinding) : Type 0 where
+  -- a catch there is 22, terminate answers 2
+  pub below-catch : (action ≡ 0 → ⊥) → action ≡ 1 → Refused 22 ≡ cleanRow true false start pad action
+  unfolding cleanRow
+  below-catch o e = rw (ne-eqb action 0 o, eq-eqb action 1 e)
+
+  pub below-terminate : (action ≡ 0 → ⊥) → (action ≡ 1 → ⊥) → Fatal ≡ cleanRow true false start pad action
+  unfolding cleanRow
+  below-terminate o e = rw (ne-eqb action 0 o, ne-eqb action 1 e)
+
+  -- below the chosen number sp is not asked for
+  pub below-any : (below same : Bool) → below ≡ true → cleanRow true false start pad action ≡ cleanRow below same start pad action
+  unfolding cleanRow
+  below-any below same e = rw e
+
+  module _ (same : Bool) where
+    -- no catch at the chosen number is 22
+    pub chosen-other : (action ≡ 1 → ⊥) → Refused 22 ≡ cleanRow false same start pad action
+    unfolding cleanRow
+    chosen-other e = rw (ne-eqb action 1 e)
+
+    -- a catch lands at the chosen sp
+    pub chosen-lands : action ≡ 1 → same ≡ true → Install start pad ≡ cleanRow false same start pad action
+    unfolding cleanRow
+    chosen-lands e s = rw (eq-eqb action 1 e, s)
+
+    -- at another one it is 22
+    pub chosen-missed : action ≡ 1 → same ≡ false → Refused 22 ≡ cleanRow false same start pad action
+    unfolding cleanRow
+    chosen-missed e s = rw (eq-eqb action 1 e, s)
+
+module _ (u : Unwinding) (a : Arch) (number start pad : ℕ) (own : Regs) (next : Frame) (d : Decided)
+    (e : d ≡ decided own (installed a (u .exception) start pad (own .r))) where
+  -- the frame lands
+  pub lands : (n : ℕ) → d .code ≡ code.Reason n → (v : Unwinding) → v ≡ goingOn u next →
+      record { answer = answer.Install number; regs = d .regs; unwinding = v }
+      ≡ resumedBy u (installAt a (u .exception) number start pad (own .r) next)
+  unfolding installAt
+  lands n p v q = go (installed a (u .exception) start pad (own .r)) e
+    where
+      go : (o : Outcome Reason) → d ≡ decided own o →
+          record { answer = answer.Install number; regs = d .regs; unwinding = v }
+          ≡ resumedBy u (o >>= λ reason. Answer (Cleanup.Install number (reason .file) next))
+      go (Outcome.Refused k) h =
+          let s : code.Refused k ≡ code.Reason n = sym (ap (λ (x : Decided). x .code) h) ∙ p in
+          let z : _≡_ {A = ℕ} 0 1 = cc in
+          absurd (omega arith)
+      go (Answer x) h =
+          ap (λ (y : Decided). record { answer = answer.Install number; regs = y .regs; unwinding = v }) h
+          ∙ ap (λ (y : Unwinding). record { answer = answer.Install number; regs = record { r = x .file }; unwinding = y }) q
+
+  -- or the landing is refused
+  pub lands-refused : (n : ℕ) → d .code ≡ code.Refused n →
+      unmoved (answer.Refused n) u ≡ resumedBy u (installAt a (u .exception) number start pad (own .r) next)
+  unfolding installAt
+  lands-refused n p = go (installed a (u .exception) start pad (own .r)) e
+    where
+      go : (o : Outcome Reason) → d ≡ decided own o →
+          unmoved (answer.Refused n) u ≡ resumedBy u (o >>= λ reason. Answer (Cleanup.Install number (reason .file) next))
+      go (Outcome.Refused k) h =
+          let s : code.Refused k ≡ code.Refused n = sym (ap (λ (x : Decided). x .code) h) ∙ p in
+          let z : n ≡ k = cc in
+          ap (λ (y : ℕ). unmoved (answer.Refused y) u) z
+      go (Answer x) h =
+          let s : code.Reason (x .code) ≡ code.Refused n = sym (ap (λ (y : Decided). y .code) h) ∙ p in
+          let z : _≡_ {A = ℕ} 0 1 = cc in
+          absurd (omega arith)
+
+-- what a frame's step and row say in the cleanup phase
+module _ (arch : ℕ) (m : Memory) (exception : ℕ) (c : Choice) (f : Frame) where
+  abbrev below : Bool
+  below = ltb (f .number) (c .number)
+
+  abbrev same : Bool
+  same = eqb (sp (numbers arch) (f .file)) (c .sp)
+
+  abbrev bySeen : (Frame → Outcome Cleaned) → Seen → Outcome Cleaned
+  bySeen rest End = Outcome.Refused 22
+  bySeen rest (Rowless next) = if below then rest next else Outcome.Refused 22
+  bySeen rest (WithRow next start pad action) =
+      cleanOr (numbers arch) exception f next (cleanRow below same start pad action) (rest next)
+
+  -- a row, where it is known how the numbers and the action compare
+  by-row : (r : Record) (next : Frame) (rest : Outcome Cleaned) (pad action : ℕ) →
+      byRow (numbers arch) exception c f r next rest (Row.Pad pad action)
+      ≡ cleanOr (numbers arch) exception f next (cleanRow below same (r .start) pad action) rest
+  unfolding cleanRow installPad installAt
+  by-row r next rest pad action = go below refl (eqb action 0) refl (eqb action 1) refl same refl
+    where
+      go : (b : Bool) → below ≡ b → (z : Bool) → eqb action 0 ≡ z → (o : Bool) → eqb action 1 ≡ o → (s : Bool) → same ≡ s →
+          byRow (numbers arch) exception c f r next rest (Row.Pad pad action)
+          ≡ cleanOr (numbers arch) exception f next (cleanRow below same (r .start) pad action) rest
+      go true p true q o v s w = rw (p, q)
+      go true p false q true v s w = rw (p, q, v)
+      go true p false q false v s w = rw (p, q, v)
+      go false p z q true v true w = rw (p, v, w)
+      go false p z q true v false w = rw (p, v, w)
+      go false p z q false v s w = rw (p, v)
+
+  by-seen : (rest : Frame → Outcome Cleaned) (o : Outcome Step) →
+      (o >>= cleanAt arch m exception c f rest) ≡ ((o >>= seenAt arch m f) >>= bySeen rest)
+  by-seen rest (Outcome.Refused n) = refl
+  by-seen rest (Answer Walk.End) = refl
+  by-seen rest (Answer (Walk.Past r next)) = go (rowOf (numbers arch) m (f .interrupted) r (pc (f .file)))
+    where
+      go : (o : Outcome Found) →
+          (o >>= byRow (numbers arch) exception c f r next (rest next))
+          ≡ ((o >>= λ row. Answer (seenAs r next row)) >>= bySeen rest)
+      go (Outcome.Refused n) = refl
+      go (Answer Row.None) = refl
+      go (Answer (Row.Pad pad action)) = by-row r next (rest next) pad action
+
+  -- the same of a frame that was met
+  module _ (file : List ℕ) (w : Met) (e : meeting f file w ≡ seen arch m f) where
+    by-met : (rest : Frame → Outcome Cleaned) →
+        (frameStep arch m f >>= cleanAt arch m exception c f rest)
+        ≡ cleanOr (numbers arch) exception f (callerOf f file) (cleanMet below same w) (rest (callerOf f file))
+    unfolding seen
+    by-met rest = by-seen rest (frameStep arch m f) ∙ ap (λ (o : Outcome Seen). o >>= bySeen rest) (sym e) ∙ go w
+      where
+        rowless : (b : Bool) →
+            (if b then rest (callerOf f file) else Outcome.Refused 22)
+            ≡ cleanOr (numbers arch) exception f (callerOf f file) (if b then On else Refused 22) (rest (callerOf f file))
+        rowless true = refl
+        rowless false = refl
+
+        go : (w : Met) →
+            (meeting f file w >>= bySeen rest)
+            ≡ cleanOr (numbers arch) exception f (callerOf f file) (cleanMet below same w) (rest (callerOf f file))
+        go met.End = refl
+        go met.Rowless = rowless below
+        go (met.Row start pad action) = refl
+        go (met.Refused n) = refl
+
+-- a turn that goes on or lands is no refusal
+pub apart-on : (n : ℕ) → On ≡ Refused n → ⊥
+apart-on n e = let z : _≡_ {A = ℕ} 0 1 = cc in absurd (omega arith)
+
+pub apart-install : (start pad n : ℕ) → Install start pad ≡ Refused n → ⊥
+apart-install start pad n e = let z : _≡_ {A = ℕ} 0 1 = cc in absurd (omega arith)
+
+-- what a sweep from a frame on comes to, for an unwinding
+abbrev pub cleanedFrom : ℕ → ℕ → Memory → Unwinding → Frame → Outcome Cleaned
+cleanedFrom n arch m u f = cleanFrom n arch m (u .exception) (choiceOf u) f
+
+-- the sweep of an unwinding has come to a frame; the fuel left is enough for the frames that may still be given
+pub record UnderWay (arch : ℕ) (m : Memory) (u : Unwinding) (f : Frame) : Type 0 where
   pub fuel : ℕ
-  pub left : cleanedFrom 1025 arch m first ≡ cleanedFrom (suc fuel) arch m u
-  pub enough : 1024 ≤ fuel + u .number
-  pub kept : u ≡ goingOn first (frameOf u)
+  pub left : cleanedFrom 1025 arch m u (frameOf u) ≡ cleanedFrom (suc fuel) arch m u f
+  pub enough : 1024 ≤ fuel + f .number
 
-module _ (arch : ℕ) (m : Memory) where
+module _ (arch : ℕ) (m : Memory) (u : Unwinding) where
   -- at first all of the sweep is left
-  pub cleaning-begin : (u : Unwinding) → UnderWay arch m u u
-  cleaning-begin u = record { fuel = 1024; left = refl; enough = omega arith; kept = refl }
+  pub cleaning-begin : UnderWay arch m u (frameOf u)
+  cleaning-begin = record { fuel = 1024; left = refl; enough = omega arith }
 
-  module _ (first u : Unwinding) (s : UnderWay arch m first u) (l : Cleaned) (t : Cleans arch m u l) where
-    -- what is left, by the turn
-    by-turn : (turn : Cleaning) → l .met .turn ≡ turn →
-        cleanedFrom 1025 arch m first
-        ≡ cleanOr (u .number) (callerOf (l .next)) turn (l .met .regs .r) (cleanedFrom (s .fuel) arch m (goingOn u (callerOf (l .next))))
-    by-turn turn e =
-        let rest : Frame → Outcome Cleanup.Cleaned = λ (g : Frame). cleanFrom (s .fuel) arch m (u .exception) (choiceOf u) g in
-        s .left
-        ∙ sym
-        (t .turn (callerOf (l .next)) rest
-        ∙ ap
-        (λ (o : Outcome Step). o >>= cleanAt arch m (u .exception) (choiceOf u) (frameOf u) rest)
-        (step-told (frameOf u) (frameStep arch m (frameOf u)) (l .next) (t .step)))
-        ∙ ap
-        (λ (y : Cleaning). cleanOr (u .number) (callerOf (l .next)) y (l .met .regs .r) (rest (callerOf (l .next))))
+  module _ (f : Frame) (file : List ℕ) (w : Met) (e : meeting f file w ≡ seen arch m f) (b s : Bool)
+      (p : b ≡ ltb (f .number) (u .«chosen_number»)) (k : ℕ) (i : k ≡ numbers arch .sp) (q : s ≡ eqb (getD (f .file) k 0) (u .«chosen_sp»))
+      (t : Cleaning)
+      (g : t ≡ cleanMet b s w) where
+    -- a turn that goes on or lands has passed the frame
+    passed : (x : Met) → (x ≡ met.End → ⊥) → ((n : ℕ) → x ≡ met.Refused n → ⊥) → meeting f file x ≡ seen arch m f → f .number < 1024
+    passed met.End i j k = absurd (i refl)
+    passed (met.Refused n) i j k = absurd (j n refl)
+    passed met.Rowless i j k =
+        seen-below arch m f (Rowless (callerOf f file)) k
+        (λ (y : Rowless (callerOf f file) ≡ End). let z : _≡_ {A = ℕ} 0 1 = cc in absurd (omega arith))
+    passed (met.Row start pad action) i j k =
+        seen-below arch m f (WithRow (callerOf f file) start pad action) k
+        (λ (y : WithRow (callerOf f file) start pad action ≡ End). let z : _≡_ {A = ℕ} 0 1 = cc in absurd (omega arith))
+
+    pub cleaning-below : ((n : ℕ) → t ≡ Refused n → ⊥) → f .number < 1024
+    cleaning-below h =
+        passed w
+        (λ (i : w ≡ met.End). h 22 (g ∙ ap (λ (x : Met). cleanMet b s x) i))
+        (λ (n : ℕ) (i : w ≡ met.Refused n). h n (g ∙ ap (λ (x : Met). cleanMet b s x) i))
         e
 
-    -- a turn that goes on has passed the frame
-    pub cleaning-passes : l .met .turn ≡ On → Passes (frameOf u) (l .next)
-    cleaning-passes e =
-        on-passes arch m (frameOf u) (l .next) (t .step)
-        (λ (x : Outcome Cleanup.Cleaned). cleanAt arch m (u .exception) (choiceOf u) (frameOf u) (λ (g : Frame). x)) (Outcome.Refused 22)
-        (λ (x : Outcome Cleanup.Cleaned). refl)
-        (λ (x : Outcome Cleanup.Cleaned).
-        sym (ap (λ (y : Cleaning). cleanOr (u .number) (frameOf u) y (l .met .regs .r) x) e) ∙ t .turn (frameOf u) (λ (g : Frame). x))
+    module _ (d : UnderWay arch m u f) where
+      -- what is left, by the turn
+      by-turn : (v : Cleaning) → t ≡ v →
+          cleanedFrom 1025 arch m u (frameOf u)
+          ≡ cleanOr (numbers arch) (u .exception) f (callerOf f file) v (cleanedFrom (d .fuel) arch m u (callerOf f file))
+      by-turn v h =
+          d .left
+          ∙ by-met arch m (u .exception) (choiceOf u) f file w e (λ (x : Frame). cleanedFrom (d .fuel) arch m u x)
+          ∙ ap
+          (λ (x : Cleaning).
+          cleanOr (numbers arch) (u .exception) f (callerOf f file) x (cleanedFrom (d .fuel) arch m u (callerOf f file)))
+          (ap (λ (x : Bool). cleanMet x (eqb (sp (numbers arch) (f .file)) (u .«chosen_sp»)) w) (sym p)
+          ∙ ap (λ (x : Bool). cleanMet b x w) (sym (q ∙ ap (λ (x : ℕ). eqb (getD (f .file) x 0) (u .«chosen_sp»)) i)) ∙ sym g ∙ h)
 
-    -- and the sweep goes on from the caller
-    pub cleaning-on : l .met .turn ≡ On → (v : Unwinding) → v ≡ goingOn u (callerOf (l .next)) → UnderWay arch m first v
-    cleaning-on e v q = rw q (go (s .fuel) (s .enough) (by-turn On e))
-      where
-        go : (n : ℕ) → 1024 ≤ n + u .number → cleanedFrom 1025 arch m first ≡ cleanedFrom n arch m (goingOn u (callerOf (l .next))) →
-            UnderWay arch m first (goingOn u (callerOf (l .next)))
-        go zero h p = let b = cleaning-passes e in absurd (omega (arith, b .below))
-        go (suc n) h p =
-            let b = cleaning-passes e in
-            record {
-              fuel = n;
-              left = p;
-              enough = omega (arith, b .more);
-              kept = ap (λ (x : Unwinding). goingOn x (callerOf (l .next))) (s .kept);
-            }
+      -- it goes on from the caller
+      pub cleaning-on : t ≡ On → UnderWay arch m u (callerOf f file)
+      cleaning-on h = go (d .fuel) (d .enough) (by-turn On h)
+        where
+          go : (n : ℕ) → 1024 ≤ n + f .number →
+              cleanedFrom 1025 arch m u (frameOf u) ≡ cleanedFrom n arch m u (callerOf f file) → UnderWay arch m u (callerOf f file)
+          go zero i k =
+              let c = cleaning-below (λ (n : ℕ) (j : t ≡ Refused n). apart-on n (sym h ∙ j)) in
+              absurd (omega (arith, c))
+          go (suc n) i k = record { fuel = n; left = k; enough = omega arith }
 
-    -- a landing: the unwinding goes on from the caller
-    pub cleaning-lands : l .met .turn ≡ Install → (v : Unwinding) → v ≡ goingOn u (callerOf (l .next)) →
-        record { answer = answer.Install (u .number); regs = l .met .regs; unwinding = v }
-        ≡ resumedBy first (cleanedFrom 1025 arch m first)
-    cleaning-lands e v q =
-        rw (by-turn Install e)
-        (ap (λ (x : Unwinding). record { answer = answer.Install (u .number); regs = l .met .regs; unwinding = x })
-        (q ∙ ap (λ (x : Unwinding). goingOn x (callerOf (l .next))) (s .kept)))
+      -- a landing
+      pub cleaning-lands : (start pad : ℕ) → t ≡ Install start pad → (r : Resumed) →
+          r ≡ resumedBy u (installAt (numbers arch) (u .exception) (f .number) start pad (f .file) (callerOf f file)) →
+          r ≡ resumedBy u (cleanedFrom 1025 arch m u (frameOf u))
+      cleaning-lands start pad h r k = k ∙ sym (ap (resumedBy u) (by-turn (Install start pad) h))
 
-    -- 2
-    pub cleaning-fatal : l .met .turn ≡ Fatal → unmoved answer.Fatal first ≡ resumedBy first (cleanedFrom 1025 arch m first)
-    cleaning-fatal e = rw (by-turn Fatal e)
+      -- 2
+      pub cleaning-fatal : t ≡ Fatal → unmoved answer.Fatal u ≡ resumedBy u (cleanedFrom 1025 arch m u (frameOf u))
+      cleaning-fatal h = sym (ap (resumedBy u) (by-turn Fatal h))
 
-    -- a refusal
-    pub cleaning-refused : (n : ℕ) → l .met .turn ≡ Refused n →
-        unmoved (answer.Refused n) first ≡ resumedBy first (cleanedFrom 1025 arch m first)
-    cleaning-refused n e = rw (by-turn (Refused n) e)
+      -- a refusal
+      pub cleaning-refused : (n : ℕ) → t ≡ Refused n →
+          unmoved (answer.Refused n) u ≡ resumedBy u (cleanedFrom 1025 arch m u (frameOf u))
+      cleaning-refused n h = sym (ap (resumedBy u) (by-turn (Refused n) h))
 
 module _ (l : Lent) (arch : ℕ) (u : Unwinding) where
   -- 28
@@ -131,6 +292,6 @@ module _ (l : Lent) (arch : ℕ) (u : Unwinding) where
 
       -- the next landing
       pub resumed-on : u .number ≤ u .«chosen_number» →
-          resumedBy u (cleanedFrom 1025 arch (l .regions) u) ≡ resumedBy u (resume l arch u)
+          resumedBy u (cleanedFrom 1025 arch (l .regions) u (frameOf u)) ≡ resumedBy u (resume l arch u)
       unfolding clean
       resumed-on h = ap (resumedBy u) (rw (le-ltb (u .«chosen_number») (u .number) h) at (by-chosen true e))

@@ -1,70 +1,66 @@
 -- Laws of the search phase, turn by turn. Assumes nothing.
 use mathlib.Core.Path.{_≡_, refl, sym, _∙_, ap}
-use Prim.Native.Nat.{ℕ, zero, suc, _+_, _≤_}
+use mathlib.Core.List.{List}
+use Prim.Native.Nat.{ℕ, zero, suc, _+_, _≤_, _<_}
 use native.Mathlib.Omega.{arith}
+use lib.ListN.{getD}
 use borrow.Author.Tests.{eq-eqb, ne-eqb}
-use Rattle.failure.specs.Outcome.{Outcome, _>>=_}
+use Rattle.failure.specs.Outcome as Outcome
+use Rattle.failure.specs.Outcome.{Outcome, Answer, _>>=_}
 use Rattle.mem.specs.Memory.{Memory}
-use Rattle.arch.specs.Arch.{Arch, numbers}
+use Rattle.arch.specs.Arch.{numbers}
 use Rattle.arch.specs.File.{sp, pc}
-use Rattle.rows.specs.Row.{found}
-use Rattle.rows.specs.declared.Row.{Row}
-use Rattle.rows.specs.declared.Row.the-variants as row
-use Rattle.lookup.specs.declared.Record.{Record}
+use Rattle.rows.specs.Row as Row
+use Rattle.rows.specs.Row.{Found}
 use Rattle.personality.specs.Reason.{rowOf, searchedCode}
-use Rattle.model.specs.FrameStep.{Frame, Step, frameStep}
-use Rattle.model.specs.Search.{Searched, searchAt, searchFrom, search}
-use Rattle.unwind.specs.Answers.{callerOf, searched}
-use Rattle.unwind.specs.Turns.{searchOr, Follows, SearchTurn, Searches}
-use Rattle.unwind.specs.declared.Walked.{Walked}
-use Rattle.unwind.specs.declared.Walked.the-variants as walked
+use Rattle.model.specs.FrameStep as Walk
+use Rattle.model.specs.FrameStep.{Frame, Step, callerOf, frameStep}
+use Rattle.model.specs.Search as Search
+use Rattle.model.specs.Search.{Searched, byCode, searchAt, searchFrom, search}
+use Rattle.unwind.specs.Answers.{searched}
+use Rattle.unwind.specs.Turns.{Seen, End, Rowless, WithRow, seenAs, seenAt, seen, meeting, searchOr, Follows, searchMet, SearchTurn}
+use Rattle.unwind.specs.declared.Met.{Met}
+use Rattle.unwind.specs.declared.Met.the-variants as met
 use Rattle.unwind.specs.declared.RaiseAnswer.{RaiseAnswer}
 use Rattle.unwind.specs.declared.RaiseAnswer.the-variants as raise
 use Rattle.unwind.specs.declared.Looking.{Looking}
 use Rattle.unwind.specs.declared.Looking.the-variants.{On, Stop}
-use Rattle.unwind.specs.declared.Looked.{Looked}
-use Rattle.unwind.proofs.Stepping.{step-told, Passes, on-passes}
+use Rattle.unwind.proofs.Meeting.{seen-below}
 
-module _ (a : Arch) (f : Frame) (action : ℕ) where
+module _ (number v action : ℕ) where
   -- a cleanup is passed over
-  pub follows-cleanup : action ≡ 0 → Follows a f action On
+  pub follows-cleanup : action ≡ 0 → Follows number v action On
   unfolding searchedCode
   follows-cleanup e rest = rw (eq-eqb action 0 e)
 
   module _ (other : action ≡ 0 → ⊥) where
     -- a catch chooses the frame
-    pub follows-catch : action ≡ 1 → (v : ℕ) → v ≡ sp a (f .file) → Follows a f action (Stop (raise.Chosen (f .number) v))
+    pub follows-catch : action ≡ 1 → Follows number v action (Stop (raise.Chosen number v))
     unfolding searchedCode
-    follows-catch e v p rest = rw (p, ne-eqb action 0 other, eq-eqb action 1 e)
+    follows-catch e rest = rw (ne-eqb action 0 other, eq-eqb action 1 e)
 
     -- terminate stops the search
-    pub follows-terminate : (action ≡ 1 → ⊥) → Follows a f action (Stop raise.Stopped)
+    pub follows-terminate : (action ≡ 1 → ⊥) → Follows number v action (Stop raise.Stopped)
     unfolding searchedCode
     follows-terminate e rest = rw (ne-eqb action 0 other, ne-eqb action 1 e)
 
-module _ (arch : ℕ) (m : Memory) (f : Frame) (answer : Walked) where
-  -- the step ends the search
-  pub turn-ended : answer ≡ walked.End → SearchTurn arch m f answer (Stop raise.Ended)
-  turn-ended e next rest = rw e
+module _ (number v : ℕ) (w : Met) where
+  -- the end
+  pub turn-ended : w ≡ met.End → SearchTurn number v w (Stop raise.Ended)
+  turn-ended e rest = rw e
 
-  -- the step is refused
-  pub turn-refused : (n : ℕ) → answer ≡ walked.Refused n → SearchTurn arch m f answer (Stop (raise.Refused n))
-  turn-refused n e next rest = rw e
+  -- no row
+  pub turn-rowless : w ≡ met.Rowless → SearchTurn number v w On
+  turn-rowless e rest = rw e
 
-  module _ (r : Record) (e : answer ≡ walked.Past r) (p : ℕ) (w : p ≡ pc (f .file)) (x : Row)
-      (q : found x ≡ rowOf (numbers arch) m (f .interrupted) r p) where
-    -- no row
-    pub turn-none : x ≡ row.None → SearchTurn arch m f answer On
-    turn-none z next rest = rw (e, sym w, sym q, z)
+  -- a row
+  pub turn-row : (start pad action : ℕ) → w ≡ met.Row start pad action → (t : Looking) → Follows number v action t →
+      SearchTurn number v w t
+  turn-row start pad action e t g rest = rw e (g rest)
 
-    -- a row
-    pub turn-row : (pad action : ℕ) (t : Looking) → x ≡ row.Is pad action → Follows (numbers arch) f action t →
-        SearchTurn arch m f answer t
-    turn-row pad action t z g next rest = rw (e, sym w, sym q, z) (g (rest next))
-
-    -- the row is refused
-    pub turn-row-refused : (n : ℕ) → x ≡ row.Refused n → SearchTurn arch m f answer (Stop (raise.Refused n))
-    turn-row-refused n z next rest = rw (e, sym w, sym q, z)
+  -- a refusal
+  pub turn-refused : (n : ℕ) → w ≡ met.Refused n → SearchTurn number v w (Stop (raise.Refused n))
+  turn-refused n e rest = rw e
 
 -- the search has come to a frame; the fuel left is enough for the frames that may still be given
 pub record Searching (arch : ℕ) (m : Memory) (whole : Outcome Searched) (f : Frame) : Type 0 where
@@ -78,35 +74,74 @@ module _ (arch : ℕ) (m : Memory) (f : Frame) where
   unfolding search
   searching-begin = record { fuel = 1024; left = refl; enough = omega arith }
 
-  module _ (whole : Outcome Searched) (s : Searching arch m whole f) (l : Looked) (t : Searches arch m f l) where
-    -- what is left, by the turn
-    by-turn : whole ≡ searchOr (l .turn) (searchFrom (s .fuel) arch m (callerOf (l .next)))
-    by-turn =
-        s .left
-        ∙ sym
-        (t .turn (callerOf (l .next)) (λ (g : Frame). searchFrom (s .fuel) arch m g)
-        ∙ ap
-        (λ (o : Outcome Step). o >>= searchAt arch m f (λ (g : Frame). searchFrom (s .fuel) arch m g))
-        (step-told f (frameStep arch m f) (l .next) (t .step)))
+  -- what a frame's step and row say
+  abbrev bySeen : (Frame → Outcome Searched) → Seen → Outcome Searched
+  bySeen rest End = Answer Search.Ended
+  bySeen rest (Rowless next) = rest next
+  bySeen rest (WithRow next start pad action) = byCode (numbers arch) f (searchedCode action) (rest next)
 
-    -- a turn that goes on has passed the frame
-    pub searching-passes : l .turn ≡ On → Passes f (l .next)
-    searching-passes e =
-        on-passes arch m f (l .next) (t .step) (λ (x : Outcome Searched). searchAt arch m f (λ (g : Frame). x)) (searched raise.Ended)
-        (λ (x : Outcome Searched). refl)
-        (λ (x : Outcome Searched). sym (ap (λ (y : Looking). searchOr y x) e) ∙ t .turn f (λ (g : Frame). x))
+  by-seen : (rest : Frame → Outcome Searched) (o : Outcome Step) →
+      (o >>= searchAt arch m f rest) ≡ ((o >>= seenAt arch m f) >>= bySeen rest)
+  by-seen rest (Outcome.Refused n) = refl
+  by-seen rest (Answer Walk.End) = refl
+  by-seen rest (Answer (Walk.Past r next)) = go (rowOf (numbers arch) m (f .interrupted) r (pc (f .file)))
+    where
+      go : (o : Outcome Found) →
+          (o >>= λ row. byCode (numbers arch) f (Search.searchCode row) (rest next))
+          ≡ ((o >>= λ row. Answer (seenAs r next row)) >>= bySeen rest)
+      go (Outcome.Refused n) = refl
+      go (Answer Row.None) = refl
+      go (Answer (Row.Pad pad action)) = refl
 
-    -- and the search goes on from the caller
-    pub searching-on : l .turn ≡ On → Searching arch m whole (callerOf (l .next))
-    searching-on e = go (s .fuel) (s .enough) (by-turn ∙ ap (λ (y : Looking). searchOr y (searchFrom (s .fuel) arch m (callerOf (l .next)))) e)
+  module _ (file : List ℕ) (w : Met) (e : meeting f file w ≡ seen arch m f) (k : ℕ) (p : k ≡ numbers arch .sp) where
+    abbrev v : ℕ
+    v = getD (f .file) k 0
+
+    -- the same of a frame that was met
+    by-met : (rest : Frame → Outcome Searched) →
+        (frameStep arch m f >>= searchAt arch m f rest) ≡ searchMet (f .number) v w (rest (callerOf f file))
+    unfolding seen
+    by-met rest =
+        by-seen rest (frameStep arch m f) ∙ ap (λ (o : Outcome Seen). o >>= bySeen rest) (sym e) ∙ go w
       where
-        go : (n : ℕ) → 1024 ≤ n + f .number → whole ≡ searchFrom n arch m (callerOf (l .next)) →
-            Searching arch m whole (callerOf (l .next))
-        go zero h p = let b = searching-passes e in absurd (omega (arith, b .below))
-        go (suc n) h p =
-            let b = searching-passes e in
-            record { fuel = n; left = p; enough = omega (arith, b .more) }
+        go : (w : Met) → (meeting f file w >>= bySeen rest) ≡ searchMet (f .number) v w (rest (callerOf f file))
+        go met.End = refl
+        go met.Rowless = refl
+        go (met.Row start pad action) = rw p
+        go (met.Refused n) = refl
 
-    -- a turn that stops has the answer
-    pub searching-stop : (r : RaiseAnswer) → l .turn ≡ Stop r → searched r ≡ whole
-    searching-stop r e = sym (by-turn ∙ ap (λ (y : Looking). searchOr y (searchFrom (s .fuel) arch m (callerOf (l .next)))) e)
+    module _ (t : Looking) (g : SearchTurn (f .number) v w t) where
+      -- a turn that goes on has passed the frame
+      pub searching-below : t ≡ On → f .number < 1024
+      searching-below h = go w e (λ (x : Outcome Searched). ap (λ (y : Looking). searchOr y x) (sym h) ∙ g x)
+        where
+          two : (y : Outcome Searched) → Outcome.Refused 0 ≡ y → Outcome.Refused 1 ≡ y → ⊥
+          two y p q = let z : _≡_ {A = ℕ} 0 1 = cc in absurd (omega arith)
+
+          go : (w : Met) → meeting f file w ≡ seen arch m f → ((x : Outcome Searched) → x ≡ searchMet (f .number) v w x) → f .number < 1024
+          go met.End e on = absurd (two _ (on (Outcome.Refused 0)) (on (Outcome.Refused 1)))
+          go (met.Refused n) e on = absurd (two _ (on (Outcome.Refused 0)) (on (Outcome.Refused 1)))
+          go met.Rowless e on =
+              seen-below arch m f (Rowless (callerOf f file)) e
+              (λ (q : Rowless (callerOf f file) ≡ End). let z : _≡_ {A = ℕ} 0 1 = cc in absurd (omega arith))
+          go (met.Row start pad action) e on =
+              seen-below arch m f (WithRow (callerOf f file) start pad action) e
+              (λ (q : WithRow (callerOf f file) start pad action ≡ End). let z : _≡_ {A = ℕ} 0 1 = cc in absurd (omega arith))
+
+      module _ (whole : Outcome Searched) (s : Searching arch m whole f) where
+        -- what is left, by the turn
+        by-turn : whole ≡ searchOr t (searchFrom (s .fuel) arch m (callerOf f file))
+        by-turn =
+            s .left ∙ by-met (λ (h : Frame). searchFrom (s .fuel) arch m h) ∙ sym (g (searchFrom (s .fuel) arch m (callerOf f file)))
+
+        -- the search goes on from the caller
+        pub searching-on : t ≡ On → Searching arch m whole (callerOf f file)
+        searching-on h = go (s .fuel) (s .enough) (by-turn ∙ ap (λ (y : Looking). searchOr y (searchFrom (s .fuel) arch m (callerOf f file))) h)
+          where
+            go : (n : ℕ) → 1024 ≤ n + f .number → whole ≡ searchFrom n arch m (callerOf f file) → Searching arch m whole (callerOf f file)
+            go zero b q = let c = searching-below h in absurd (omega (arith, c))
+            go (suc n) b q = record { fuel = n; left = q; enough = omega arith }
+
+        -- a turn that stops has the answer
+        pub searching-stop : (r : RaiseAnswer) → t ≡ Stop r → searched r ≡ whole
+        searching-stop r h = sym (by-turn ∙ ap (λ (y : Looking). searchOr y (searchFrom (s .fuel) arch m (callerOf f file))) h)

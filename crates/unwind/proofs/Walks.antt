@@ -1,22 +1,57 @@
 -- Laws of the frame step. Assumes nothing.
-use mathlib.Core.Path.{_≡_, sym}
-use mathlib.Core.Bool.{Bool, true, false}
+use mathlib.Core.Path.{_≡_, refl, sym, _∙_, ap}
+use mathlib.Core.Bool.{Bool, true, false, not, _&&_, _||_}
 use mathlib.Core.List.{List}
+use mathlib.Core.Option.{Option, none, some}
 use Prim.Native.Nat.{ℕ, _-_, _≤_, _<_}
-use borrow.Author.Tests.{eq-eqb, ne-eqb, lt-ltb, le-ltb}
-use Rattle.failure.specs.Outcome.{Refused, Answer, _>>=_}
+use native.Mathlib.Omega.{arith}
+use lib.Dec.{eqb, ltb}
+use lib.ListN.{getD}
+use borrow.Author.Tests.{eq-eqb, ne-eqb, lt-ltb, le-ltb, ltb-true, eqb-false}
+use Rattle.failure.specs.Choice.{if_then_else_}
+use Rattle.failure.specs.Outcome as Outcome
+use Rattle.failure.specs.Outcome.{Outcome, Answer, _>>=_}
 use Rattle.failure.specs.Failure.{StackNotAdvancing, TooManyFrames}
 use Rattle.mem.specs.Memory.{Memory}
 use Rattle.arch.specs.Arch.{Arch, numbers}
-use Rattle.arch.specs.File.{pc}
+use Rattle.arch.specs.File.{sp, pc}
+use Rattle.arch.specs.Answers.{next}
+use Rattle.arch.specs.declared.Regs.{Regs}
+use Rattle.arch.specs.declared.Next.{Next}
+use Rattle.arch.specs.declared.Status.{Status}
+use Rattle.arch.specs.declared.Status.the-variants as status
 use Rattle.lookup.specs.declared.Record.{Record}
 use Rattle.lookup.specs.declared.Lookup.{Lookup}
-use Rattle.lookup.specs.Lookup.{lookup, looked}
+use Rattle.lookup.specs.Lookup.{Found, lookup, looked}
 use Rattle.program.specs.Run.{Ran, run}
 use Rattle.frame.specs.Layout.{layout}
 use Rattle.frame.specs.Apply.{apply}
 use Rattle.frame.specs.Step.{step}
-use Rattle.model.specs.FrameStep.{Frame, End, Past, sectionOf, lookedUp, callerFile, notAdvancing, callerOf, past, pastFound, frameStep}
+use Rattle.model.specs.FrameStep as Walk
+use Rattle.model.specs.FrameStep.{Frame, Step, sectionOf, lookedUp, callerFile, notAdvancing, callerOf, past, pastFound, frameStep}
+use Rattle.unwind.specs.Turns.{fileTold, callerByRun, passed, functionOf, recordOf}
+
+-- a file by value tells the outcome that it was made of
+pub next-told : (regs : Regs) (o : Outcome (List ℕ)) (r : Next) → r ≡ next regs o → fileTold (r .status) (r .regs .r) ≡ o
+next-told regs (Outcome.Refused n) r e = ap (λ (x : Next). fileTold (x .status) (x .regs .r)) e
+next-told regs (Answer file) r e = ap (λ (x : Next). fileTold (x .status) (x .regs .r)) e
+
+-- a status and the file beside it tell the outcome
+pub told : (o : Outcome (List ℕ)) (s t : Status) (file : List ℕ) → fileTold s file ≡ o → s ≡ t → o ≡ fileTold t file
+told o s t file e p = sym e ∙ ap (λ (x : Status). fileTold x file) p
+
+module _ (a : Arch) (m : Memory) (program limit off : ℕ) (file : List ℕ) where
+  -- run, then apply
+  pub by-run : (ran : Ran) → run m a program limit off ≡ Answer ran →
+      apply a m (layout (ran .state)) file ≡ callerByRun a m program limit off file
+  unfolding callerByRun
+  by-run ran p = rw p
+
+  -- unless run refuses
+  pub by-run-refused : (n : ℕ) → run m a program limit off ≡ Outcome.Refused n →
+      Outcome.Refused n ≡ callerByRun a m program limit off file
+  unfolding callerByRun
+  by-run-refused n p = rw p
 
 module _ (a : Arch) (m : Memory) (interrupted : Bool) (r : Record) (at : ℕ) (file : List ℕ) where
   -- version 1: by step
@@ -24,51 +59,96 @@ module _ (a : Arch) (m : Memory) (interrupted : Bool) (r : Record) (at : ℕ) (f
   unfolding callerFile
   caller-1 v = rw (ne-eqb (r .version) 2 v)
 
-  module _ (v : r .version ≡ 2) (off : ℕ) (e : off ≡ at - r .start) where
-    -- version 2: by run, then apply
-    pub caller-2 : (ran : Ran) → run m a (r .program) (r .limit) off ≡ Answer ran →
-        apply a m (layout (ran .state)) file ≡ callerFile a m interrupted r at file
-    unfolding callerFile
-    caller-2 ran p = rw (eq-eqb (r .version) 2 v, sym e, p)
-
-    -- unless run refuses
-    pub caller-refused : (n : ℕ) → run m a (r .program) (r .limit) off ≡ Refused n → Refused n ≡ callerFile a m interrupted r at file
-    unfolding callerFile
-    caller-refused n p = rw (eq-eqb (r .version) 2 v, sym e, p)
+  -- version 2: by run, then apply
+  pub caller-2 : r .version ≡ 2 → (off : ℕ) → off ≡ at - r .start →
+      callerByRun a m (r .program) (r .limit) off file ≡ callerFile a m interrupted r at file
+  unfolding callerFile callerByRun
+  caller-2 v off e = rw (eq-eqb (r .version) 2 v, sym e)
 
 module _ (a : Arch) (m : Memory) (f : Frame) (r : Record) (at : ℕ) (e : at ≡ lookedUp (f .interrupted) (pc (f .file))) where
   -- the caller's registers are refused
-  pub past-refused : (n : ℕ) → callerFile a m (f .interrupted) r at (f .file) ≡ Refused n → Refused n ≡ past a m f r
+  pub past-refused : (n : ℕ) → callerFile a m (f .interrupted) r at (f .file) ≡ Outcome.Refused n → Outcome.Refused n ≡ past a m f r
   unfolding past
   past-refused n p = rw (sym e, p)
 
-  module _ (next : List ℕ) (p : callerFile a m (f .interrupted) r at (f .file) ≡ Answer next) where
+  module _ (file : List ℕ) (p : callerFile a m (f .interrupted) r at (f .file) ≡ Answer file) (k : ℕ) (q : k ≡ a .sp) (t : Bool)
+      (c : t ≡ (ltb (getD file k 0) (getD (f .file) k 0) || (not (eqb (f .number) 0) && eqb (getD file k 0) (getD (f .file) k 0)))) where
     -- sp does not advance
-    pub past-20 : notAdvancing a (f .number) (f .file) next ≡ true → Refused StackNotAdvancing ≡ past a m f r
-    unfolding past
-    past-20 q = rw (sym e, p) (rw q)
+    pub past-20 : t ≡ true → Outcome.Refused StackNotAdvancing ≡ past a m f r
+    unfolding past notAdvancing
+    past-20 d = rw (sym e, p) (rw (sym q) (rw (sym c, d)))
 
     -- it does
-    pub past-on : notAdvancing a (f .number) (f .file) next ≡ false → Answer (Past r (callerOf f next)) ≡ past a m f r
-    unfolding past
-    past-on q = rw (sym e, p) (rw q)
+    pub past-on : t ≡ false → Answer (Walk.Past r (callerOf f file)) ≡ past a m f r
+    unfolding past notAdvancing
+    past-on d = rw (sym e, p) (rw (sym q) (rw (sym c, d)))
 
-module _ (arch : ℕ) (m : Memory) (f : Frame) where
+module _ (section : List ℕ) (base arch number : ℕ) (interrupted : Bool) (at : ℕ) where
   -- pc 0 ends the walk
-  pub step-end : pc (f .file) ≡ 0 → Answer End ≡ frameStep arch m f
-  unfolding frameStep
-  step-end e = rw (eq-eqb (pc (f .file)) 0 e)
+  pub record-end : at ≡ 0 → Answer none ≡ recordOf section base arch number interrupted at
+  unfolding recordOf
+  record-end e = rw (eq-eqb at 0 e)
 
-  module _ (p : ℕ) (e : p ≡ pc (f .file)) (some : p ≡ 0 → ⊥) where
+  module _ (some-pc : at ≡ 0 → ⊥) where
     -- 1,024 frames were given
-    pub step-29 : 1024 ≤ f .number → Refused TooManyFrames ≡ frameStep arch m f
-    unfolding frameStep
-    step-29 h = rw (sym e, ne-eqb p 0 some, le-ltb (f .number) 1024 h)
+    pub record-29 : 1024 ≤ number → Outcome.Refused TooManyFrames ≡ recordOf section base arch number interrupted at
+    unfolding recordOf
+    record-29 h = rw (ne-eqb at 0 some-pc, le-ltb number 1024 h)
 
     -- what lookup found
-    pub step-looked : f .number < 1024 → (at : ℕ) → at ≡ lookedUp (f .interrupted) p → (l v : Lookup) →
-        looked l ≡ lookup (sectionOf m .bytes) (sectionOf m .base) at arch → l ≡ v →
-        (looked v >>= pastFound (numbers arch) m f) ≡ frameStep arch m f
-    unfolding frameStep
-    step-looked h at g l v q w =
-        rw (sym e, ne-eqb p 0 some, lt-ltb (f .number) 1024 h, sym g, sym q, w)
+    pub record-looked : number < 1024 → (k : ℕ) → k ≡ lookedUp interrupted at → (l v : Lookup) →
+        looked l ≡ lookup section base k arch → l ≡ v →
+        (looked v >>= λ found. Answer (functionOf found)) ≡ recordOf section base arch number interrupted at
+    unfolding recordOf
+    record-looked h k g l v q w = rw (ne-eqb at 0 some-pc, lt-ltb number 1024 h, sym g, sym q, w)
+
+  -- a frame that has a record has a pc, and fewer than 1,024 came before it
+  pub record-bounds : (r : Record) → Answer (some r) ≡ recordOf section base arch number interrupted at → (1 ≤ at) × (number < 1024)
+  unfolding recordOf
+  record-bounds r e = ends (eqb at 0) refl
+    where
+      counts : eqb at 0 ≡ false → (t : Bool) → ltb number 1024 ≡ t → (1 ≤ at) × (number < 1024)
+      counts z true q = let h = eqb-false at 0 z in (omega (arith, h), ltb-true number 1024 q)
+      counts z false q =
+          let b : Answer (some r) ≡ Outcome.Refused TooManyFrames = rw (z, q) at e in
+          let y : _≡_ {A = ℕ} 0 1 = cc in
+          absurd (omega arith)
+
+      ends : (t : Bool) → eqb at 0 ≡ t → (1 ≤ at) × (number < 1024)
+      ends true z =
+          let b : Answer (some r) ≡ Answer none = rw z at e in
+          let y : _≡_ {A = ℕ} 0 1 = cc in
+          absurd (omega arith)
+      ends false z = counts z (ltb number 1024) refl
+
+-- the step of a frame by its record, if it has one
+abbrev pub pastRecord : Arch → Memory → Frame → Option Record → Outcome Step
+pastRecord a m f none = Answer Walk.End
+pastRecord a m f (some r) = past a m f r
+
+-- a frame's record, as the frame step looks for it
+abbrev pub recordIn : ℕ → Memory → Frame → Outcome (Option Record)
+recordIn arch m f = recordOf (sectionOf m .bytes) (sectionOf m .base) arch (f .number) (f .interrupted) (pc (f .file))
+
+-- the frame step by the frame's record
+pub step-by-record : (arch : ℕ) (m : Memory) (f : Frame) (o : Outcome (Option Record)) → o ≡ recordIn arch m f →
+    (o >>= pastRecord (numbers arch) m f) ≡ frameStep arch m f
+unfolding frameStep recordOf
+step-by-record arch m f o e =
+    ap (λ (x : Outcome (Option Record)). x >>= pastRecord (numbers arch) m f) e ∙ ends (eqb (pc (f .file)) 0) refl
+  where
+    found : (x : Outcome (Option Found)) →
+        ((x >>= λ y. Answer (functionOf y)) >>= pastRecord (numbers arch) m f) ≡ (x >>= pastFound (numbers arch) m f)
+    found (Outcome.Refused n) = refl
+    found (Answer none) = refl
+    found (Answer (some y)) = refl
+
+    counts : eqb (pc (f .file)) 0 ≡ false → (t : Bool) → ltb (f .number) 1024 ≡ t →
+        (recordIn arch m f >>= pastRecord (numbers arch) m f) ≡ frameStep arch m f
+    counts z true q =
+        rw (z, q) (found (lookup (sectionOf m .bytes) (sectionOf m .base) (lookedUp (f .interrupted) (pc (f .file))) arch))
+    counts z false q = rw (z, q)
+
+    ends : (t : Bool) → eqb (pc (f .file)) 0 ≡ t → (recordIn arch m f >>= pastRecord (numbers arch) m f) ≡ frameStep arch m f
+    ends true z = rw z
+    ends false z = counts z (ltb (f .number) 1024) refl

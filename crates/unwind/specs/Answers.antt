@@ -16,6 +16,7 @@ use Rattle.model.specs.Unwinding as Unwinding
 use Rattle.model.specs.Unwinding.{frame0, raised, resumed}
 use Rattle.model.specs.Call.{after}
 use Rattle.mem.specs.Memory.{Lent}
+use Rattle.unwind.specs.declared.Walked.{Walked}
 use Rattle.unwind.specs.declared.Walked.the-variants as walked
 use Rattle.unwind.specs.declared.Stepped.{Stepped}
 use Rattle.unwind.specs.declared.RaiseAnswer.{RaiseAnswer}
@@ -27,19 +28,20 @@ use Rattle.unwind.specs.declared.Resumed.{Resumed}
 use Rattle.unwind.specs.declared.Unwound.{Unwound}
 
 -- a frame as the code takes it
-abbrev pub frameAt : ℕ → Bool → Regs → Frame
-frameAt number interrupted regs = record { number = number; interrupted = interrupted; file = regs .r }
+abbrev pub frameWith : ℕ → Bool → List ℕ → Frame
+frameWith number interrupted file = record { number = number; interrupted = interrupted; file = file }
 
--- the frame that a step hands back
-abbrev pub callerOf : Stepped → Frame
-callerOf s = frameAt (s .number) (s .interrupted) (s .regs)
+abbrev pub frameAt : ℕ → Bool → Regs → Frame
+frameAt number interrupted regs = frameWith number interrupted (regs .r)
+
+-- an answer beside the frame that came in
+abbrev pub staying : Walked → Frame → Stepped
+staying answer f = record { answer = answer; number = f .number; interrupted = f .interrupted; regs = record { r = f .file } }
 
 -- a step: past the frame it hands back the caller's, otherwise the frame that came in
 abbrev pub stepped : Frame → Outcome Step → Stepped
-stepped f (Outcome.Refused n) =
-    record { answer = walked.Refused n; number = f .number; interrupted = f .interrupted; regs = record { r = f .file } }
-stepped f (Answer Walk.End) =
-    record { answer = walked.End; number = f .number; interrupted = f .interrupted; regs = record { r = f .file } }
+stepped f (Outcome.Refused n) = staying (walked.Refused n) f
+stepped f (Answer Walk.End) = staying walked.End f
 stepped f (Answer (Walk.Past r next)) =
     record { answer = walked.Past r; number = next .number; interrupted = next .interrupted; regs = record { r = next .file } }
 

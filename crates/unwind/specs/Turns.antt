@@ -1,97 +1,159 @@
 -- What a turn of a loop comes to: no definition of the model goes through these.
 use mathlib.Core.Path.{_≡_}
+use mathlib.Core.Bool.{Bool, not, _&&_, _||_}
 use mathlib.Core.List.{List}
+use mathlib.Core.Option.{Option, none, some}
 use Prim.Native.Nat.{ℕ}
+use lib.Dec.{eqb, ltb}
+use Rattle.failure.specs.Choice.{if_then_else_}
 use Rattle.failure.specs.Outcome as Outcome
 use Rattle.failure.specs.Outcome.{Outcome, Answer, _>>=_}
+use Rattle.failure.specs.Failure.{TooManyFrames, HandlerFrameMissed}
 use Rattle.mem.specs.Memory.{Memory}
-use Rattle.arch.specs.Arch.{Arch}
-use Rattle.rows.specs.Row.{Found, Pad}
+use Rattle.arch.specs.Arch.{Arch, numbers}
+use Rattle.arch.specs.File.{pc}
+use Rattle.arch.specs.declared.Status.{Status}
+use Rattle.arch.specs.declared.Status.the-variants as status
+use Rattle.rows.specs.Row as Row
+use Rattle.rows.specs.Row.{Found, cleanup, catch}
 use Rattle.lookup.specs.declared.Record.{Record}
-use Rattle.personality.specs.Reason.{searchedCode}
-use Rattle.model.specs.declared.Unwinding.{Unwinding}
+use Rattle.lookup.specs.Lookup as Lookup
+use Rattle.personality.specs.Reason.{rowOf, installed, searchedCode, handlerFound, fatalPhase1}
+use Rattle.program.specs.Run.{run}
+use Rattle.frame.specs.Layout.{layout}
+use Rattle.frame.specs.Apply.{apply}
 use Rattle.model.specs.FrameStep as Walk
-use Rattle.model.specs.FrameStep.{Frame, Step, frameStep}
-use Rattle.model.specs.Search.{Searched, byCode, searchAt}
+use Rattle.model.specs.FrameStep.{Frame, Step, lookedUp, maxFrames, callerOf, frameStep}
+use Rattle.model.specs.Search as Search
+use Rattle.model.specs.Search.{Searched}
 use Rattle.model.specs.Cleanup as Cleanup
-use Rattle.model.specs.Cleanup.{installPad, below, chosen, byRow, cleanAt}
-use Rattle.model.specs.Unwinding.{frameOf, choiceOf}
-use Rattle.unwind.specs.Answers.{searched, stepped}
-use Rattle.unwind.specs.declared.Walked.{Walked}
-use Rattle.unwind.specs.declared.Walked.the-variants as walked
+use Rattle.model.specs.Cleanup.{Cleaned}
+use Rattle.unwind.specs.Answers.{searched}
+use Rattle.unwind.specs.declared.Located.{Located}
+use Rattle.unwind.specs.declared.Located.the-variants as place
+use Rattle.unwind.specs.declared.Met.{Met}
+use Rattle.unwind.specs.declared.Met.the-variants as met
 use Rattle.unwind.specs.declared.Looking.{Looking}
 use Rattle.unwind.specs.declared.Looking.the-variants as looking
-use Rattle.unwind.specs.declared.Looked.{Looked}
-use Rattle.unwind.specs.declared.Met.{Met}
-use Rattle.unwind.specs.declared.Cleaned.{Cleaned}
 use Rattle.unwind.specs.declared.Cleaning.{Cleaning}
 use Rattle.unwind.specs.declared.Cleaning.the-variants as cleaning
 
--- the step that an answer tells of, where the caller is the frame `next`
-abbrev pub stepOf : Walked → Frame → Outcome Step
-stepOf walked.End next = Answer Walk.End
-stepOf (walked.Past r) next = Answer (Walk.Past r next)
-stepOf (walked.Refused n) next = Outcome.Refused n
+-- the outcome that a status tells of, beside the file as it is then
+abbrev pub fileTold : Status → List ℕ → Outcome (List ℕ)
+fileTold status.Done file = Answer file
+fileTold (status.Refused n) file = Outcome.Refused n
+
+-- version 2: the program is run to an offset, and its state applied
+unfoldable pub callerByRun : Arch → Memory → ℕ → ℕ → ℕ → List ℕ → Outcome (List ℕ)
+callerByRun a m program limit off file = do
+  ran ← run m a program limit off
+  apply a m (layout (ran .state)) file
+
+-- the step of a frame with this record that a status tells of, beside the file as it is then
+abbrev pub passed : Frame → Record → Status → List ℕ → Outcome Step
+passed f r status.Done file = Answer (Walk.Past r (callerOf f file))
+passed f r (status.Refused n) file = Outcome.Refused n
+
+-- what lookup found, by its record
+abbrev pub functionOf : Option Lookup.Found → Option Record
+functionOf none = none
+functionOf (some x) = some (x .function)
+
+-- a frame's record, none where the walk ends: pc 0 ends it; 1,024 frames given, 29; then lookup
+unfoldable pub recordOf : List ℕ → ℕ → ℕ → ℕ → Bool → ℕ → Outcome (Option Record)
+recordOf section base arch number interrupted at =
+    if eqb at 0 then Answer none
+    else if not (ltb number maxFrames) then Outcome.Refused TooManyFrames
+    else (do
+      found ← Lookup.lookup section base (lookedUp interrupted at) arch
+      Answer (functionOf found))
+
+-- the same as the code tells it
+abbrev pub located : Located → Outcome (Option Record)
+located place.End = Answer none
+located (place.At r) = Answer (some r)
+located (place.Refused n) = Outcome.Refused n
+
+-- what a frame's step and row come to: the end; the caller where the frame has no row; the caller with the record's start and the row
+pub data Seen : Type 0 where
+  End : Seen
+  Rowless : Frame → Seen
+  WithRow : Frame → (start pad action : ℕ) → Seen
+
+abbrev pub seenAs : Record → Frame → Found → Seen
+seenAs r next Row.None = Rowless next
+seenAs r next (Row.Pad pad action) = WithRow next (r .start) pad action
+
+abbrev pub seenAt : ℕ → Memory → Frame → Step → Outcome Seen
+seenAt arch m f Walk.End = Answer End
+seenAt arch m f (Walk.Past r next) = do
+  row ← rowOf (numbers arch) m (f .interrupted) r (pc (f .file))
+  Answer (seenAs r next row)
+
+-- a frame's step, then its row
+unfoldable pub seen : ℕ → Memory → Frame → Outcome Seen
+seen arch m f = frameStep arch m f >>= seenAt arch m f
+
+-- the same as the code tells it, where the caller has this file
+abbrev pub meeting : Frame → List ℕ → Met → Outcome Seen
+meeting f file met.End = Answer End
+meeting f file met.Rowless = Answer (Rowless (callerOf f file))
+meeting f file (met.Row start pad action) = Answer (WithRow (callerOf f file) start pad action)
+meeting f file (met.Refused n) = Outcome.Refused n
 
 -- a turn of the search, where the frames after it come to `rest`
 abbrev pub searchOr : Looking → Outcome Searched → Outcome Searched
 searchOr looking.On rest = rest
 searchOr (looking.Stop r) rest = searched r
 
--- the turn follows the code of a row's action
-abbrev pub Follows : Arch → Frame → ℕ → Looking → Type 0
-Follows a f action t = (rest : Outcome Searched) → searchOr t rest ≡ byCode a f (searchedCode action) rest
+-- what a row's action says of the frame with this number and sp; `rest` is what the frames after it come to
+abbrev pub byAction : ℕ → ℕ → ℕ → Outcome Searched → Outcome Searched
+byAction number sp action rest =
+    if eqb (searchedCode action) handlerFound then Answer (Search.Chosen number sp)
+    else if eqb (searchedCode action) fatalPhase1 then Answer Search.Stopped
+    else rest
 
--- the turn is that of a frame with the answer of its step
-abbrev pub SearchTurn : ℕ → Memory → Frame → Walked → Looking → Type 0
-SearchTurn arch m f answer t =
-    (next : Frame) (rest : Frame → Outcome Searched) → searchOr t (rest next) ≡ (stepOf answer next >>= searchAt arch m f rest)
+-- the turn follows a row's action
+abbrev pub Follows : ℕ → ℕ → ℕ → Looking → Type 0
+Follows number sp action t = (rest : Outcome Searched) → searchOr t rest ≡ byAction number sp action rest
 
--- the turn is that of a frame, and beside it stands its step
-pub record Searches (arch : ℕ) (m : Memory) (f : Frame) (l : Looked) : Type 0 where
-  pub step : l .next ≡ stepped f (frameStep arch m f)
-  pub turn : SearchTurn arch m f (l .next .answer) (l .turn)
+-- what a frame that was met says; `rest` is what the frames after it come to
+abbrev pub searchMet : ℕ → ℕ → Met → Outcome Searched → Outcome Searched
+searchMet number sp met.End rest = Answer Search.Ended
+searchMet number sp met.Rowless rest = rest
+searchMet number sp (met.Row start pad action) rest = byAction number sp action rest
+searchMet number sp (met.Refused n) rest = Outcome.Refused n
 
--- a turn of the sweep at a frame with this number, where the frames after it come to `rest`
-abbrev pub cleanOr : ℕ → Frame → Cleaning → List ℕ → Outcome Cleanup.Cleaned → Outcome Cleanup.Cleaned
-cleanOr number next cleaning.On file rest = rest
-cleanOr number next cleaning.Install file rest = Answer (Cleanup.Install number file next)
-cleanOr number next cleaning.Fatal file rest = Answer Cleanup.Fatal
-cleanOr number next (cleaning.Refused n) file rest = Outcome.Refused n
+-- the turn is that of a frame that was met
+abbrev pub SearchTurn : ℕ → ℕ → Met → Looking → Type 0
+SearchTurn number sp w t = (rest : Outcome Searched) → searchOr t rest ≡ searchMet number sp w rest
 
--- what a turn of the sweep with its file comes to at the frame of an unwinding
-abbrev pub metOr : Unwinding → Frame → Met → Outcome Cleanup.Cleaned → Outcome Cleanup.Cleaned
-metOr u next w rest = cleanOr (u .number) next (w .turn) (w .regs .r) rest
+-- a row of the cleanup phase: below the chosen number a cleanup lands, a catch is 22, terminate answers 2; at it a catch lands if sp is
+-- the chosen one, and all else is 22
+unfoldable pub cleanRow : Bool → Bool → ℕ → ℕ → ℕ → Cleaning
+cleanRow below same start pad action =
+    if below then
+    (if eqb action cleanup then cleaning.Install start pad
+    else if eqb action catch then cleaning.Refused HandlerFrameMissed
+    else cleaning.Fatal)
+    else (if eqb action catch && same then cleaning.Install start pad else cleaning.Refused HandlerFrameMissed)
 
--- the turn lands
-abbrev pub Lands : Arch → Unwinding → Record → ℕ → Met → Type 0
-Lands a u r pad w = (next : Frame) (rest : Outcome Cleanup.Cleaned) → metOr u next w rest ≡ installPad a (u .exception) (frameOf u) r pad next
+-- a frame that was met, in the cleanup phase
+abbrev pub cleanMet : Bool → Bool → Met → Cleaning
+cleanMet below same met.End = cleaning.Refused HandlerFrameMissed
+cleanMet below same met.Rowless = if below then cleaning.On else cleaning.Refused HandlerFrameMissed
+cleanMet below same (met.Row start pad action) = cleanRow below same start pad action
+cleanMet below same (met.Refused n) = cleaning.Refused n
 
--- the turn is that of a row below the chosen number
-abbrev pub Below : Arch → Unwinding → Record → ℕ → ℕ → Met → Type 0
-Below a u r pad action w =
-    (next : Frame) (rest : Outcome Cleanup.Cleaned) →
-    metOr u next w rest ≡ below a (u .exception) (frameOf u) r next rest (Pad pad action)
+-- a landing at a frame with this number and file; the walk goes on from its caller
+unfoldable pub installAt : Arch → ℕ → ℕ → ℕ → ℕ → List ℕ → Frame → Outcome Cleaned
+installAt a exception number start pad file next = do
+  reason ← installed a exception start pad file
+  Answer (Cleanup.Install number (reason .file) next)
 
--- the turn is that of a row at the chosen number
-abbrev pub AtChosen : Arch → Unwinding → Record → ℕ → ℕ → Met → Type 0
-AtChosen a u r pad action w =
-    (next : Frame) (rest : Outcome Cleanup.Cleaned) →
-    metOr u next w rest ≡ chosen a (u .exception) (choiceOf u) (frameOf u) r next (Pad pad action)
-
--- the turn is that of a frame's row
-abbrev pub ByRow : Arch → Unwinding → Record → Outcome Found → Met → Type 0
-ByRow a u r row w =
-    (next : Frame) (rest : Outcome Cleanup.Cleaned) →
-    metOr u next w rest ≡ (row >>= byRow a (u .exception) (choiceOf u) (frameOf u) r next rest)
-
--- the turn is that of an unwinding's frame with the answer of its step
-abbrev pub CleanTurn : ℕ → Memory → Unwinding → Walked → Met → Type 0
-CleanTurn arch m u answer w =
-    (next : Frame) (rest : Frame → Outcome Cleanup.Cleaned) →
-    metOr u next w (rest next) ≡ (stepOf answer next >>= cleanAt arch m (u .exception) (choiceOf u) (frameOf u) rest)
-
--- the turn is that of an unwinding's frame, and beside it stands its step
-pub record Cleans (arch : ℕ) (m : Memory) (u : Unwinding) (s : Cleaned) : Type 0 where
-  pub step : s .next ≡ stepped (frameOf u) (frameStep arch m (frameOf u))
-  pub turn : CleanTurn arch m u (s .next .answer) (s .met)
+-- a turn of the sweep at a frame, where the frames after it come to `rest`
+abbrev pub cleanOr : Arch → ℕ → Frame → Frame → Cleaning → Outcome Cleaned → Outcome Cleaned
+cleanOr a exception f next cleaning.On rest = rest
+cleanOr a exception f next (cleaning.Install start pad) rest = installAt a exception (f .number) start pad (f .file) next
+cleanOr a exception f next cleaning.Fatal rest = Answer Cleanup.Fatal
+cleanOr a exception f next (cleaning.Refused n) rest = Outcome.Refused n

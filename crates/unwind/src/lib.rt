@@ -2,25 +2,28 @@
 // `next_frame`, `raise` and `resume` refuse with 28 first. The functions that they call take any architecture number: any but
 // 1 stands for 2 there.
 ghost use mathlib.Core.Path.{_≡_};
-ghost use mathlib.Core.Bool.{_&&_};
-ghost use Prim.Native.Nat.{_-_, _<_, _≤_};
-ghost use Rattle.failure.specs.Outcome as Outcome;
+ghost use mathlib.Core.Bool.{true, false, not, _&&_, _||_};
+ghost use Prim.Native.Nat.{_-_, _+_, _<_, _≤_};
+ghost use lib.Dec.{eqb, ltb};
+ghost use Rattle.failure.specs.Outcome.{Answer};
+ghost use mathlib.Core.Option.{some};
 ghost use Rattle.mem.specs.Memory.{lent};
 ghost use Rattle.mem.specs.Opening.{opens};
 ghost use Rattle.arch.specs.Arch.{numbers, isKnown};
-ghost use Rattle.arch.specs.File.{sp, pc};
-ghost use Rattle.arch.specs.Answers.{next};
-ghost use Rattle.rows.specs.Row.{found};
+ghost use Rattle.arch.specs.File as File;
 ghost use Rattle.model.specs.FrameStep as Walk;
 ghost use Rattle.model.specs.Search as Search;
 ghost use Rattle.model.specs.Cleanup as Cleanup;
 ghost use Rattle.model.specs.Unwinding as Spec;
 ghost use Rattle.model.specs.Call.{Promised};
-ghost use Rattle.unwind.specs.Answers.{frameAt, stepped, searched, raisedBy, unmoved, resumedBy, cleaned, callNumber, unwoundBy};
-ghost use Rattle.unwind.specs.Turns.{Follows, SearchTurn, Searches, Lands, Below, AtChosen, ByRow, CleanTurn, Cleans};
-use arch::Next;
+ghost use Rattle.unwind.specs.Answers.{frameWith, frameAt, staying, stepped, searched, raisedBy, unmoved, resumedBy, cleaned, callNumber, unwoundBy};
+ghost use Rattle.unwind.specs.Turns.{fileTold, callerByRun, passed, recordOf, located, meeting, seen, Follows, SearchTurn, cleanRow, cleanMet, installAt};
+use arch::COLUMNS;
+use arch::PC_COLUMN;
 use arch::Regs;
+use arch::Status;
 use arch::is_known;
+use arch::sp_column;
 use failure::BAD_EKO_HEADER;
 use failure::BAD_EKO_RECORD;
 use failure::BAD_OPENING;
@@ -39,7 +42,6 @@ use model::Unwinding;
 use personality::Code;
 use personality::installed;
 use personality::row_of;
-use program::Status;
 use program::run_program;
 use rows::ACTION_CATCH;
 use rows::ACTION_CLEANUP;
@@ -98,63 +100,38 @@ pub struct Unwound {
     pub resumed: Resumed,
 }
 
+// A frame's record: the walk ends at the frame, or the frame has this one, or a refusal.
+enum Located {
+    End,
+    At(Record),
+    Refused(u32),
+}
+
+// A frame and its row: the walk ends; it is past the frame, which has no row, or one with the start of its record, pad and action;
+// or a refusal.
+enum Met {
+    End,
+    Rowless,
+    Row(usize, usize, usize),
+    Refused(u32),
+}
+
 // A turn of the search: it goes on with the next frame, or stops.
 enum Looking {
     On,
     Stop(RaiseAnswer),
 }
 
-// A turn of the search, and the frame's step.
-struct Looked {
-    turn: Looking,
-    next: Stepped,
-}
-
-// A turn of the sweep: it goes on with the next frame, or stops.
+// A turn of the sweep: it goes on with the next frame; the frame lands, by the start of its record and the pad; or the sweep stops.
 enum Cleaning {
     On,
-    Install,
+    Install(usize, usize),
     Fatal,
     Refused(u32),
 }
 
-// A turn of the sweep, and for a landing the file at the pad, else the frame's.
-struct Met {
-    turn: Cleaning,
-    regs: Regs,
-}
-
-// The same with the frame's step.
-struct Cleaned {
-    met: Met,
-    next: Stepped,
-}
-
-// The frame step.
-
-// A refusal hands back the frame that came in.
-fn refused(n: u32, number: usize, interrupted: bool, regs: Regs) -> Stepped
-    ensures { λ r. ⌜ r ≡ stepped (frameAt number interrupted regs) (Outcome.Refused n) ⌝ }
-{
-    Stepped {
-        answer: Walked::Refused(n),
-        number,
-        interrupted,
-        regs,
-    }
-}
-
-// So does the end of the walk.
-fn ended(number: usize, interrupted: bool, regs: Regs) -> Stepped
-    ensures { λ r. ⌜ r ≡ stepped (frameAt number interrupted regs) (Outcome.Answer Walk.End) ⌝ }
-{
-    Stepped {
-        answer: Walked::End,
-        number,
-        interrupted,
-        regs,
-    }
-}
+// The frame step, in place: a function takes the frame's file and leaves the caller's. For a refusal, and where the walk ends,
+// nothing is said of the file that is left.
 
 // Looked up is pc - 1, or pc for an interrupted frame.
 fn looked_up(interrupted: bool, pc: usize) -> usize
@@ -177,8 +154,59 @@ fn offset_from(start: usize, at: usize) -> usize
     at - start
 }
 
+// The caller's registers of version 2: by run, then apply.
+fn caller_by_run<'a>(
+    section: &'a [u8],
+    section_base: usize,
+    stack: &'a [u8],
+    stack_base: usize,
+    arch: u8,
+    program: usize,
+    limit: usize,
+    off: usize,
+    file: &mut [usize; COLUMNS],
+) -> Status
+    ensures { λ r. ⌜
+        fileTold r (now (file .exit)) ≡
+        callerByRun (numbers arch)
+        (lent (now (section .entry)) «section_base» (now (stack .entry)) «stack_base» .regions)
+        program limit off (now (file .entry))
+        ⌝ }
+{
+    let ran = run_program(
+        section,
+        section_base,
+        stack,
+        stack_base,
+        arch,
+        program,
+        limit,
+        off,
+    );
+    let status = ran.status;
+    match status {
+        program::Status::Done => {
+            let r = *file;
+            let next = apply_state(
+                section,
+                section_base,
+                stack,
+                stack_base,
+                arch,
+                ran.state,
+                Regs { r },
+            );
+            let regs = next.regs;
+            let caller = regs.r;
+            *file = caller;
+            next.status
+        }
+        program::Status::Refused(n) => Status::Refused(n),
+    }
+}
+
 // The caller's registers, for the address that was looked up.
-fn caller_file<'a>(
+fn caller_into<'a>(
     section: &'a [u8],
     section_base: usize,
     stack: &'a [u8],
@@ -187,17 +215,18 @@ fn caller_file<'a>(
     interrupted: bool,
     record: Record,
     at: usize,
-    regs: Regs,
-) -> Next
+    file: &mut [usize; COLUMNS],
+) -> Status
     ensures { λ r. ⌜
-        r ≡ next regs
-        (Walk.callerFile (numbers arch)
+        fileTold r (now (file .exit)) ≡
+        Walk.callerFile (numbers arch)
         (lent (now (section .entry)) «section_base» (now (stack .entry)) «stack_base» .regions)
-        interrupted «record» at (regs .r))
+        interrupted «record» at (now (file .entry))
         ⌝ }
 {
     if record.version != VERSION2 {
-        return step_frame(
+        let r = *file;
+        let next = step_frame(
             section,
             section_base,
             stack,
@@ -205,10 +234,14 @@ fn caller_file<'a>(
             arch,
             record.frame,
             interrupted,
-            regs,
+            Regs { r },
         );
+        let regs = next.regs;
+        let caller = regs.r;
+        *file = caller;
+        return next.status;
     }
-    let ran = run_program(
+    caller_by_run(
         section,
         section_base,
         stack,
@@ -217,39 +250,14 @@ fn caller_file<'a>(
         record.program,
         record.limit,
         offset_from(record.start, at),
-    );
-    let status = ran.status;
-    match status {
-        Status::Done => apply_state(
-            section,
-            section_base,
-            stack,
-            stack_base,
-            arch,
-            ran.state,
-            regs,
-        ),
-        Status::Refused(n) => Next {
-            status: arch::Status::Refused(n),
-            regs,
-        },
-    }
-}
-
-// The stack pointer of a file.
-fn sp_of(arch: u8, regs: Regs) -> usize
-    ensures { λ r. ⌜ r ≡ sp (numbers arch) (regs .r) ⌝ }
-{
-    let k = arch::sp_column(arch);
-    regs.r[k]
+        file,
+    )
 }
 
 // sp is lower than before, or equal past the first frame.
-fn not_advancing(arch: u8, number: usize, regs: Regs, next: Regs) -> bool
-    ensures { λ r. ⌜ r ≡ Walk.notAdvancing (numbers arch) number (regs .r) (next .r) ⌝ }
+fn not_advancing(number: usize, before: usize, after: usize) -> bool
+    ensures { λ r. ⌜ r ≡ (ltb after before || (not (eqb number 0) && eqb after before)) ⌝ }
 {
-    let before = sp_of(arch, regs);
-    let after = sp_of(arch, next);
     if after < before {
         return true;
     }
@@ -270,17 +278,19 @@ fn past<'a>(
     interrupted: bool,
     record: Record,
     at: usize,
-    regs: Regs,
-) -> Stepped
-    requires { ⌜ (number < 1024) × (at ≡ Walk.lookedUp interrupted (pc (regs .r))) ⌝ }
+    file: &mut [usize; COLUMNS],
+) -> Status
+    requires { ⌜ at ≡ Walk.lookedUp interrupted (File.pc (now file)) ⌝ }
     ensures { λ r. ⌜
-        r ≡ stepped (frameAt number interrupted regs)
-        (Walk.past (numbers arch)
+        passed (frameWith number interrupted (now (file .entry))) «record» r (now (file .exit)) ≡
+        Walk.past (numbers arch)
         (lent (now (section .entry)) «section_base» (now (stack .entry)) «stack_base» .regions)
-        (frameAt number interrupted regs) «record»)
+        (frameWith number interrupted (now (file .entry))) «record»
         ⌝ }
 {
-    let caller = caller_file(
+    let k = sp_column(arch);
+    let before = file[k];
+    match caller_into(
         section,
         section_base,
         stack,
@@ -289,28 +299,163 @@ fn past<'a>(
         interrupted,
         record,
         at,
-        regs,
-    );
-    let status = caller.status;
-    let file = caller.regs;
-    match status {
-        arch::Status::Done => {
-            if not_advancing(arch, number, regs, file) {
-                return refused(STACK_NOT_ADVANCING, number, interrupted, regs);
+        file,
+    ) {
+        Status::Done => {
+            if not_advancing(number, before, file[k]) {
+                return Status::Refused(STACK_NOT_ADVANCING);
             }
-            Stepped {
-                answer: Walked::Past(record),
-                number: number + 1,
-                interrupted: false,
-                regs: file,
-            }
+            Status::Done
         }
-        arch::Status::Refused(n) => refused(n, number, interrupted, regs),
+        Status::Refused(n) => Status::Refused(n),
     }
 }
 
-// The frame step. In order: pc 0 ends; 1,024 frames given, 29; lookup in the section; then the rest.
-fn frame_step<'a>(
+// A frame's record. In order: pc 0 ends; 1,024 frames given, 29; then lookup in the section.
+fn locate(
+    section: &[u8],
+    section_base: usize,
+    arch: u8,
+    number: usize,
+    interrupted: bool,
+    pc: usize,
+) -> Located
+    ensures { λ r. ⌜ located r ≡ recordOf (now (section .entry)) «section_base» arch number interrupted pc ⌝ }
+{
+    if pc == 0 {
+        return Located::End;
+    }
+    if MAX_FRAMES <= number {
+        return Located::Refused(TOO_MANY_FRAMES);
+    }
+    match lookup_part(section, section_base, looked_up(interrupted, pc), arch) {
+        Lookup::Found(record, _) => Located::At(record),
+        Lookup::None => Located::End,
+        Lookup::BadEkoHeader => Located::Refused(BAD_EKO_HEADER),
+        Lookup::BadEkoRecord => Located::Refused(BAD_EKO_RECORD),
+        Lookup::EkoUnsorted => Located::Refused(EKO_UNSORTED),
+        Lookup::BadOpening => Located::Refused(BAD_OPENING),
+    }
+}
+
+// A frame with its record: its step, then its row.
+fn meet_at<'a>(
+    section: &'a [u8],
+    section_base: usize,
+    stack: &'a [u8],
+    stack_base: usize,
+    arch: u8,
+    number: usize,
+    interrupted: bool,
+    record: Record,
+    pc: usize,
+    file: &mut [usize; COLUMNS],
+) -> Met
+    requires { ⌜
+        (pc ≡ File.pc (now file)) ×
+        (Answer (some «record») ≡ recordOf (now section) «section_base» arch number interrupted pc)
+        ⌝ }
+    ensures { λ r. ⌜
+        meeting (frameWith number interrupted (now (file .entry))) (now (file .exit)) r ≡
+        seen arch
+        (lent (now (section .entry)) «section_base» (now (stack .entry)) «stack_base» .regions)
+        (frameWith number interrupted (now (file .entry)))
+        ⌝ }
+{
+    let at = looked_up(interrupted, pc);
+    match past(
+        section,
+        section_base,
+        stack,
+        stack_base,
+        arch,
+        number,
+        interrupted,
+        record,
+        at,
+        file,
+    ) {
+        Status::Done => match row_of(
+            section,
+            section_base,
+            stack,
+            stack_base,
+            arch,
+            interrupted,
+            record,
+            pc,
+        ) {
+            Row::None => Met::Rowless,
+            Row::Is(pad, action) => Met::Row(record.start, pad, action),
+            Row::Refused(n) => Met::Refused(n),
+        },
+        Status::Refused(n) => Met::Refused(n),
+    }
+}
+
+// A frame: its step, then its row.
+fn meet<'a>(
+    section: &'a [u8],
+    section_base: usize,
+    stack: &'a [u8],
+    stack_base: usize,
+    arch: u8,
+    number: usize,
+    interrupted: bool,
+    file: &mut [usize; COLUMNS],
+) -> Met
+    ensures { λ r. ⌜
+        meeting (frameWith number interrupted (now (file .entry))) (now (file .exit)) r ≡
+        seen arch
+        (lent (now (section .entry)) «section_base» (now (stack .entry)) «stack_base» .regions)
+        (frameWith number interrupted (now (file .entry)))
+        ⌝ }
+{
+    let pc = file[PC_COLUMN];
+    match locate(section, section_base, arch, number, interrupted, pc) {
+        Located::End => Met::End,
+        Located::At(record) => meet_at(
+            section,
+            section_base,
+            stack,
+            stack_base,
+            arch,
+            number,
+            interrupted,
+            record,
+            pc,
+            file,
+        ),
+        Located::Refused(n) => Met::Refused(n),
+    }
+}
+
+// What is lent is accepted, and the architecture known; otherwise 28.
+fn accepted(section: &[u8], section_base: usize, stack: &[u8], stack_base: usize, arch: u8) -> bool
+    ensures { λ r. ⌜
+        r ≡ (opens (lent (now (section .entry)) «section_base» (now (stack .entry)) «stack_base») && isKnown arch)
+        ⌝ }
+{
+    if !opening::opens(section, section_base, stack, stack_base) {
+        return false;
+    }
+    is_known(arch)
+}
+
+// A refusal and the end of the walk hand back the frame that came in.
+fn stayed(answer: Walked, number: usize, interrupted: bool, regs: Regs) -> Stepped
+    ensures { λ r. ⌜ r ≡ staying answer (frameAt number interrupted regs) ⌝ }
+{
+    Stepped {
+        answer,
+        number,
+        interrupted,
+        regs,
+    }
+}
+
+// The frame step, for any architecture number.
+fn step_from<'a>(
     section: &'a [u8],
     section_base: usize,
     stack: &'a [u8],
@@ -327,16 +472,11 @@ fn frame_step<'a>(
         (frameAt number interrupted regs))
         ⌝ }
 {
-    let pc = regs.pc();
-    if pc == 0 {
-        return ended(number, interrupted, regs);
-    }
-    if MAX_FRAMES <= number {
-        return refused(TOO_MANY_FRAMES, number, interrupted, regs);
-    }
-    let at = looked_up(interrupted, pc);
-    match lookup_part(section, section_base, at, arch) {
-        Lookup::Found(record, _) => past(
+    let mut file = regs.r;
+    let pc = file[PC_COLUMN];
+    match locate(section, section_base, arch, number, interrupted, pc) {
+        Located::End => stayed(Walked::End, number, interrupted, regs),
+        Located::At(record) => match past(
             section,
             section_base,
             stack,
@@ -345,27 +485,19 @@ fn frame_step<'a>(
             number,
             interrupted,
             record,
-            at,
-            regs,
-        ),
-        Lookup::None => ended(number, interrupted, regs),
-        Lookup::BadEkoHeader => refused(BAD_EKO_HEADER, number, interrupted, regs),
-        Lookup::BadEkoRecord => refused(BAD_EKO_RECORD, number, interrupted, regs),
-        Lookup::EkoUnsorted => refused(EKO_UNSORTED, number, interrupted, regs),
-        Lookup::BadOpening => refused(BAD_OPENING, number, interrupted, regs),
+            looked_up(interrupted, pc),
+            &mut file,
+        ) {
+            Status::Done => Stepped {
+                answer: Walked::Past(record),
+                number: number + 1,
+                interrupted: false,
+                regs: Regs { r: file },
+            },
+            Status::Refused(n) => stayed(Walked::Refused(n), number, interrupted, regs),
+        },
+        Located::Refused(n) => stayed(Walked::Refused(n), number, interrupted, regs),
     }
-}
-
-// What is lent is accepted, and the architecture known; otherwise 28.
-fn accepted(section: &[u8], section_base: usize, stack: &[u8], stack_base: usize, arch: u8) -> bool
-    ensures { λ r. ⌜
-        r ≡ (opens (lent (now (section .entry)) «section_base» (now (stack .entry)) «stack_base») && isKnown arch)
-        ⌝ }
-{
-    if !opening::opens(section, section_base, stack, stack_base) {
-        return false;
-    }
-    is_known(arch)
 }
 
 // The frame step in what is lent.
@@ -386,9 +518,9 @@ pub fn next_frame<'a>(
         ⌝ }
 {
     if !accepted(section, section_base, stack, stack_base, arch) {
-        return refused(BAD_OPENING, number, interrupted, regs);
+        return stayed(Walked::Refused(BAD_OPENING), number, interrupted, regs);
     }
-    frame_step(
+    step_from(
         section,
         section_base,
         stack,
@@ -403,96 +535,28 @@ pub fn next_frame<'a>(
 // The search phase.
 
 // What a row's action says: a catch chooses the frame, a cleanup is passed over, terminate stops the search.
-fn search_action(arch: u8, number: usize, interrupted: bool, regs: Regs, action: usize) -> Looking
-    ensures { λ r. ⌜ Follows (numbers arch) (frameAt number interrupted regs) action r ⌝ }
+fn search_action(number: usize, sp: usize, action: usize) -> Looking
+    ensures { λ r. ⌜ Follows number sp action r ⌝ }
 {
     if action == ACTION_CLEANUP {
         return Looking::On;
     }
     if action == ACTION_CATCH {
-        return Looking::Stop(RaiseAnswer::Chosen(number, sp_of(arch, regs)));
+        return Looking::Stop(RaiseAnswer::Chosen(number, sp));
     }
     Looking::Stop(RaiseAnswer::Stopped)
 }
 
-// What a frame says, by the answer of its step and then by its row.
-fn search_row<'a>(
-    section: &'a [u8],
-    section_base: usize,
-    stack: &'a [u8],
-    stack_base: usize,
-    arch: u8,
-    number: usize,
-    interrupted: bool,
-    regs: Regs,
-    answer: Walked,
-) -> Looking
-    ensures { λ r. ⌜
-        SearchTurn arch
-        (lent (now (section .entry)) «section_base» (now (stack .entry)) «stack_base» .regions)
-        (frameAt number interrupted regs) answer r
-        ⌝ }
+// What a frame that was met says.
+fn search_turn(number: usize, sp: usize, met: Met) -> Looking
+    ensures { λ r. ⌜ SearchTurn number sp met r ⌝ }
 {
-    match answer {
-        Walked::End => Looking::Stop(RaiseAnswer::Ended),
-        Walked::Refused(n) => Looking::Stop(RaiseAnswer::Refused(n)),
-        Walked::Past(record) => match row_of(
-            section,
-            section_base,
-            stack,
-            stack_base,
-            arch,
-            interrupted,
-            record,
-            regs.pc(),
-        ) {
-            Row::None => Looking::On,
-            Row::Is(_, action) => search_action(arch, number, interrupted, regs, action),
-            Row::Refused(n) => Looking::Stop(RaiseAnswer::Refused(n)),
-        },
+    match met {
+        Met::End => Looking::Stop(RaiseAnswer::Ended),
+        Met::Rowless => Looking::On,
+        Met::Row(_, _, action) => search_action(number, sp, action),
+        Met::Refused(n) => Looking::Stop(RaiseAnswer::Refused(n)),
     }
-}
-
-// A turn of the search: the frame's step, then its row.
-fn search_frame<'a>(
-    section: &'a [u8],
-    section_base: usize,
-    stack: &'a [u8],
-    stack_base: usize,
-    arch: u8,
-    number: usize,
-    interrupted: bool,
-    regs: Regs,
-) -> Looked
-    ensures { λ r. ⌜
-        Searches arch
-        (lent (now (section .entry)) «section_base» (now (stack .entry)) «stack_base» .regions)
-        (frameAt number interrupted regs) r
-        ⌝ }
-{
-    let next = frame_step(
-        section,
-        section_base,
-        stack,
-        stack_base,
-        arch,
-        number,
-        interrupted,
-        regs,
-    );
-    let answer = next.answer;
-    let turn = search_row(
-        section,
-        section_base,
-        stack,
-        stack_base,
-        arch,
-        number,
-        interrupted,
-        regs,
-        answer,
-    );
-    Looked { turn, next }
 }
 
 // The search from frame 0 on.
@@ -512,11 +576,13 @@ fn search<'a>(
         (frameAt 0 interrupted regs)
         ⌝ }
 {
+    let k = sp_column(arch);
     let mut number = 0;
     let mut first = interrupted;
-    let mut file = regs;
+    let mut file = regs.r;
     loop {
-        let looked = search_frame(
+        let sp = file[k];
+        let met = meet(
             section,
             section_base,
             stack,
@@ -524,15 +590,12 @@ fn search<'a>(
             arch,
             number,
             first,
-            file,
+            &mut file,
         );
-        let next = looked.next;
-        let turn = looked.turn;
-        match turn {
+        match search_turn(number, sp, met) {
             Looking::On => {
-                number = next.number;
-                first = next.interrupted;
-                file = next.regs;
+                number += 1;
+                first = false;
             }
             Looking::Stop(answer) => return answer,
         }
@@ -607,152 +670,52 @@ pub fn raise<'a>(
 
 // The cleanup phase.
 
-// A turn that does not land beside the frame's own file.
-fn no_pad(turn: Cleaning, unwinding: Unwinding) -> Met
-    ensures { λ r. ⌜ (r .turn ≡ turn) × (r .regs ≡ unwinding .regs) ⌝ }
-{
-    let regs = unwinding.regs;
-    Met { turn, regs }
-}
-
-// The landing of a frame.
-fn install(arch: u8, unwinding: Unwinding, record: Record, pad: usize) -> Met
-    ensures { λ r. ⌜ Lands (numbers arch) unwinding «record» pad r ⌝ }
-{
-    let file = unwinding.regs;
-    let landed = installed(arch, unwinding.exception, record.start, pad, file);
-    let regs = landed.regs;
-    let code = landed.code;
-    match code {
-        Code::Reason(_) => Met {
-            turn: Cleaning::Install,
-            regs,
-        },
-        Code::Refused(n) => no_pad(Cleaning::Refused(n), unwinding),
-    }
-}
-
 // A row below the chosen number: a cleanup lands, a catch is 22, terminate answers 2.
-fn below(arch: u8, unwinding: Unwinding, record: Record, pad: usize, action: usize) -> Met
-    ensures { λ r. ⌜ Below (numbers arch) unwinding «record» pad action r ⌝ }
+fn below(start: usize, pad: usize, action: usize) -> Cleaning
+    ensures { λ r. ⌜ r ≡ cleanRow true false start pad action ⌝ }
 {
     if action == ACTION_CLEANUP {
-        return install(arch, unwinding, record, pad);
+        return Cleaning::Install(start, pad);
     }
     if action == ACTION_CATCH {
-        return no_pad(Cleaning::Refused(HANDLER_FRAME_MISSED), unwinding);
+        return Cleaning::Refused(HANDLER_FRAME_MISSED);
     }
-    no_pad(Cleaning::Fatal, unwinding)
+    Cleaning::Fatal
 }
 
 // A row at the chosen number: a catch lands if sp is the chosen one; all else is 22.
-fn at_chosen(arch: u8, unwinding: Unwinding, record: Record, pad: usize, action: usize) -> Met
-    ensures { λ r. ⌜ AtChosen (numbers arch) unwinding «record» pad action r ⌝ }
+fn at_chosen(same_sp: bool, start: usize, pad: usize, action: usize) -> Cleaning
+    ensures { λ r. ⌜ r ≡ cleanRow false «same_sp» start pad action ⌝ }
 {
     if action != ACTION_CATCH {
-        return no_pad(Cleaning::Refused(HANDLER_FRAME_MISSED), unwinding);
+        return Cleaning::Refused(HANDLER_FRAME_MISSED);
     }
-    let regs = unwinding.regs;
-    if sp_of(arch, regs) != unwinding.chosen_sp {
-        return no_pad(Cleaning::Refused(HANDLER_FRAME_MISSED), unwinding);
+    if same_sp {
+        return Cleaning::Install(start, pad);
     }
-    install(arch, unwinding, record, pad)
+    Cleaning::Refused(HANDLER_FRAME_MISSED)
 }
 
-// What a frame's row says: no row goes on below the chosen number and is 22 at it.
-fn by_row(arch: u8, unwinding: Unwinding, record: Record, row: Row) -> Met
-    ensures { λ r. ⌜ ByRow (numbers arch) unwinding «record» (found row) r ⌝ }
+// What a frame that was met says: an end before the chosen one is 22; no row goes on below the chosen number and is 22 at it.
+fn clean_turn(is_below: bool, same_sp: bool, met: Met) -> Cleaning
+    ensures { λ r. ⌜ r ≡ cleanMet «is_below» «same_sp» met ⌝ }
 {
-    match row {
-        Row::None => {
-            if unwinding.number < unwinding.chosen_number {
-                return no_pad(Cleaning::On, unwinding);
+    match met {
+        Met::End => Cleaning::Refused(HANDLER_FRAME_MISSED),
+        Met::Rowless => {
+            if is_below {
+                return Cleaning::On;
             }
-            no_pad(Cleaning::Refused(HANDLER_FRAME_MISSED), unwinding)
+            Cleaning::Refused(HANDLER_FRAME_MISSED)
         }
-        Row::Is(pad, action) => {
-            if unwinding.number < unwinding.chosen_number {
-                return below(arch, unwinding, record, pad, action);
+        Met::Row(start, pad, action) => {
+            if is_below {
+                return below(start, pad, action);
             }
-            at_chosen(arch, unwinding, record, pad, action)
+            at_chosen(same_sp, start, pad, action)
         }
-        Row::Refused(n) => no_pad(Cleaning::Refused(n), unwinding),
+        Met::Refused(n) => Cleaning::Refused(n),
     }
-}
-
-// What a frame says, by the answer of its step and then by its row; an end before the chosen frame is 22.
-fn clean_row<'a>(
-    section: &'a [u8],
-    section_base: usize,
-    stack: &'a [u8],
-    stack_base: usize,
-    arch: u8,
-    unwinding: Unwinding,
-    answer: Walked,
-) -> Met
-    ensures { λ r. ⌜
-        CleanTurn arch
-        (lent (now (section .entry)) «section_base» (now (stack .entry)) «stack_base» .regions)
-        unwinding answer r
-        ⌝ }
-{
-    match answer {
-        Walked::End => no_pad(Cleaning::Refused(HANDLER_FRAME_MISSED), unwinding),
-        Walked::Refused(n) => no_pad(Cleaning::Refused(n), unwinding),
-        Walked::Past(record) => {
-            let regs = unwinding.regs;
-            let row = row_of(
-                section,
-                section_base,
-                stack,
-                stack_base,
-                arch,
-                unwinding.interrupted,
-                record,
-                regs.pc(),
-            );
-            by_row(arch, unwinding, record, row)
-        }
-    }
-}
-
-// A turn of the sweep: the frame's step, then its row.
-fn clean_frame<'a>(
-    section: &'a [u8],
-    section_base: usize,
-    stack: &'a [u8],
-    stack_base: usize,
-    arch: u8,
-    unwinding: Unwinding,
-) -> Cleaned
-    ensures { λ r. ⌜
-        Cleans arch
-        (lent (now (section .entry)) «section_base» (now (stack .entry)) «stack_base» .regions)
-        unwinding r
-        ⌝ }
-{
-    let regs = unwinding.regs;
-    let next = frame_step(
-        section,
-        section_base,
-        stack,
-        stack_base,
-        arch,
-        unwinding.number,
-        unwinding.interrupted,
-        regs,
-    );
-    let answer = next.answer;
-    let met = clean_row(
-        section,
-        section_base,
-        stack,
-        stack_base,
-        arch,
-        unwinding,
-        answer,
-    );
-    Cleaned { met, next }
 }
 
 // The unwinding that goes on from a frame.
@@ -779,6 +742,35 @@ fn kept(answer: ResumeAnswer, unwinding: Unwinding) -> Resumed
     }
 }
 
+// A landing at a frame, with the frame's own registers and its caller's.
+fn landed(
+    arch: u8,
+    unwinding: Unwinding,
+    number: usize,
+    start: usize,
+    pad: usize,
+    own: Regs,
+    caller: Regs,
+) -> Resumed
+    requires { ⌜ number < 1024 ⌝ }
+    ensures { λ r. ⌜
+        r ≡ resumedBy unwinding
+        (installAt (numbers arch) (unwinding .exception) number start pad (own .r) (frameAt (number + 1) false caller))
+        ⌝ }
+{
+    let at_pad = installed(arch, unwinding.exception, start, pad, own);
+    let regs = at_pad.regs;
+    let code = at_pad.code;
+    match code {
+        Code::Reason(_) => Resumed {
+            answer: ResumeAnswer::Install(number),
+            regs,
+            unwinding: going_on(unwinding, number + 1, false, caller),
+        },
+        Code::Refused(n) => kept(ResumeAnswer::Refused(n), unwinding),
+    }
+}
+
 // The next landing from an unwinding's frame on.
 fn clean<'a>(
     section: &'a [u8],
@@ -795,21 +787,41 @@ fn clean<'a>(
         (unwinding .exception) (Spec.choiceOf unwinding) (Spec.frameOf unwinding))
         ⌝ }
 {
-    let mut u = unwinding;
+    let k = sp_column(arch);
+    let regs = unwinding.regs;
+    let mut file = regs.r;
+    let mut number = unwinding.number;
+    let mut interrupted = unwinding.interrupted;
     loop {
-        let cleaned = clean_frame(section, section_base, stack, stack_base, arch, u);
-        let next = cleaned.next;
-        let file = next.regs;
-        let met = cleaned.met;
-        let regs = met.regs;
-        let turn = met.turn;
-        match turn {
-            Cleaning::On => u = going_on(u, next.number, next.interrupted, file),
-            Cleaning::Install => return Resumed {
-                answer: ResumeAnswer::Install(u.number),
-                regs,
-                unwinding: going_on(u, next.number, next.interrupted, file),
-            },
+        let own = file;
+        let met = meet(
+            section,
+            section_base,
+            stack,
+            stack_base,
+            arch,
+            number,
+            interrupted,
+            &mut file,
+        );
+        match clean_turn(
+            number < unwinding.chosen_number,
+            own[k] == unwinding.chosen_sp,
+            met,
+        ) {
+            Cleaning::On => {
+                number += 1;
+                interrupted = false;
+            }
+            Cleaning::Install(start, pad) => return landed(
+                arch,
+                unwinding,
+                number,
+                start,
+                pad,
+                Regs { r: own },
+                Regs { r: file },
+            ),
             Cleaning::Fatal => return kept(ResumeAnswer::Fatal, unwinding),
             Cleaning::Refused(n) => return kept(ResumeAnswer::Refused(n), unwinding),
         }

@@ -1,82 +1,117 @@
--- `unwind::sweep` meets its contract. The invariant is `Cleaning`; the measure is the frames that may still be given. Assumes nothing.
-use mathlib.Core.Path.{_∙_, ap}
-use Prim.Native.Nat.{_-_}
+-- `unwind::clean` meets its contract. The invariant is `UnderWay`; the measure is the frames that may still be given. Assumes nothing.
+use mathlib.Core.Path.{_≡_, refl, sym, _∙_}
+use Prim.Native.Nat.{ℕ, _-_, _<_}
 use native.Mathlib.Omega.{arith}
 use Rattle.mem.specs.Memory.{lent}
-use Rattle.model.specs.declared.Unwinding.{Unwinding}
-use Rattle.unwind.proofs.CleanupPhase.{UnderWay, cleaning-begin, cleaning-passes, cleaning-on, cleaning-lands, cleaning-fatal, cleaning-refused}
+use Rattle.unwind.specs.Answers.{frameWith}
+use Rattle.unwind.specs.declared.Cleaning.the-variants.{Refused}
+use Rattle.unwind.proofs.CleanupPhase.{UnderWay, apart-on, apart-install, cleaning-begin, cleaning-below, cleaning-on, cleaning-lands, cleaning-fatal, cleaning-refused}
 use borrow.Author.Needs.{needs}
 use Rattle.unwind.proofs.clean.Statement.{statement}
 use Rattle.unwind.proofs.clean.Tie as tie
+use Rattle.arch.proofs.sp_column.Reads as sp-column-reads
 
 abbrev Inv-loop : tie.InvT-loop
-Inv-loop section section-base stack stack-base arch unwinding u₀ u =
-    UnderWay arch (lent section section-base stack stack-base .regions) unwinding u
+Inv-loop section section-base stack stack-base arch unwinding k file₀ number₀ interrupted₀ file number interrupted =
+    UnderWay arch (lent section section-base stack stack-base .regions) unwinding (frameWith number interrupted file)
 
 abbrev μ-loop : tie.MeasureT-loop
-μ-loop section section-base stack stack-base arch unwinding u₀ u =
-    1024 - u .number
+μ-loop section section-base stack stack-base arch unwinding k file₀ number₀ interrupted₀ file number interrupted =
+    1024 - number
+
+sp-column-requires : tie.Need-sp-column-requires Inv-loop μ-loop
+sp-column-requires c κs =
+    search needs
 
 loop-holds : tie.Need-loop-holds Inv-loop μ-loop
 loop-holds c =
     cleaning-begin _ _ _
 
-clean-frame-requires : tie.Need-clean-frame-requires Inv-loop μ-loop
-clean-frame-requires c κs = search needs
+meet-requires : tie.Need-meet-requires Inv-loop μ-loop
+meet-requires c κs =
+    search needs
+
+mul-clean-turn : tie.Need-mul-clean-turn Inv-loop μ-loop
+mul-clean-turn c =
+    search needs
+
+array-read-clean-turn : tie.Need-array-read-clean-turn Inv-loop μ-loop
+array-read-clean-turn c =
+    search needs
+
+clean-turn-requires : tie.Need-clean-turn-requires Inv-loop μ-loop
+clean-turn-requires c κs =
+    search needs
 
 enum-told : tie.Need-enum-told Inv-loop μ-loop
-enum-told c = search needs
+enum-told c =
+    search needs
 
-going-on-requires : tie.Need-going-on-requires Inv-loop μ-loop
-going-on-requires c κs = search needs
+-- a turn that goes on has passed the frame
+below : (c : tie.After-enum-told Inv-loop μ-loop) → c .before .before .before .before .before .before .before .loop .number < 1024
+below c =
+    cleaning-below _ _ (c .before .before .before .before .before .before .before .before .before .before .before .before .before .args .unwinding) _ (c .before .before .before .before .before .meet .last .1 .1 .1 .1 .1 .1 .1 .0) (c .before .before .before .before .before .meet .result) (c .before .before .before .before .before .meet .ensures) _ _ refl _ (c .before .before .before .before .before .before .before .before .before .before .sp-column .ensures .0) refl _
+    (c .before .before .clean-turn .ensures)
+    (λ (n : ℕ) (e : c .before .before .clean-turn .result ≡ Refused n). apart-on n (sym (c .enum-told .given .1) ∙ e))
+
+add-number : tie.Need-add-number Inv-loop μ-loop
+add-number c =
+    let b = below c in omega (arith, b)
 
 loop-less : tie.Need-loop-less Inv-loop μ-loop
 loop-less c =
-    let p = cleaning-passes _ _ _ _ (c .before .before .before .before .before .before .before .before .loop .inv) _
-    (c .before .before .before .before .before .before .before .clean-frame .ensures) (c .before .enum-told .given .1) in
-    omega (arith, p .below, p .more, ap (λ (u : Unwinding). u .number) (c .going-on .ensures))
+    let b = below c in omega (arith, b)
 
 loop-again : tie.Need-loop-again Inv-loop μ-loop
 loop-again c =
-    cleaning-on _ _ _ _ (c .before .before .before .before .before .before .before .before .loop .inv) _
-    (c .before .before .before .before .before .before .before .clean-frame .ensures) (c .before .enum-told .given .1) _
-    (c .going-on .ensures)
+    cleaning-on _ _ _ _ (c .before .before .before .before .before .meet .last .1 .1 .1 .1 .1 .1 .1 .0) (c .before .before .before .before .before .meet .result) (c .before .before .before .before .before .meet .ensures) _ _ refl _ (c .before .before .before .before .before .before .before .before .before .before .sp-column .ensures .0) refl _
+    (c .before .before .clean-turn .ensures) (c .before .before .before .before .before .before .before .loop .inv) (c .enum-told .given .1)
 
-enum-told-2 : tie.Need-enum-told-2 Inv-loop μ-loop
-enum-told-2 c = search needs
+enum-known-start : tie.Need-enum-known-start Inv-loop μ-loop
+enum-known-start c =
+    search needs
 
-going-on-requires-2 : tie.Need-going-on-requires-2 Inv-loop μ-loop
-going-on-requires-2 c κs = search needs
+-- so has a landing
+below-landing : (c : tie.After-known-told Inv-loop μ-loop) → c .before .before .before .before .before .before .before .before .loop .number < 1024
+below-landing c =
+    cleaning-below _ _ (c .before .before .before .before .before .before .before .before .before .before .before .before .before .before .args .unwinding) _ (c .before .before .before .before .before .before .meet .last .1 .1 .1 .1 .1 .1 .1 .0) (c .before .before .before .before .before .before .meet .result) (c .before .before .before .before .before .before .meet .ensures) _ _ refl _ (c .before .before .before .before .before .before .before .before .before .before .before .sp-column .ensures .0) refl _
+    (c .before .before .before .clean-turn .ensures)
+    (λ (n : ℕ) (e : c .before .before .before .clean-turn .result ≡ Refused n). apart-install _ _ n (sym (c .before .start .given .1) ∙ e))
+
+landed-requires : tie.Need-landed-requires Inv-loop μ-loop
+landed-requires c κs =
+    let b = below-landing c in omega (arith, b)
 
 returns : tie.Need-returns Inv-loop μ-loop
 returns c =
-    cleaning-lands _ _ _ _ (c .before .before .before .before .before .before .before .before .loop .inv) _
-    (c .before .before .before .before .before .before .before .clean-frame .ensures) (c .before .enum-told2 .given .1) _
-    (c .going-on2 .ensures)
+    cleaning-lands _ _ _ _ (c .before .before .before .before .before .before .before .meet .last .1 .1 .1 .1 .1 .1 .1 .0) (c .before .before .before .before .before .before .before .meet .result) (c .before .before .before .before .before .before .before .meet .ensures) _ _ refl _ (c .before .before .before .before .before .before .before .before .before .before .before .before .sp-column .ensures .0) refl _
+    (c .before .before .before .before .clean-turn .ensures) (c .before .before .before .before .before .before .before .before .before .loop .inv) _ _ (c .before .before .start .given .1) _ (c .landed .ensures)
 
-enum-told-3 : tie.Need-enum-told-3 Inv-loop μ-loop
-enum-told-3 c = search needs
+enum-told-2 : tie.Need-enum-told-2 Inv-loop μ-loop
+enum-told-2 c =
+    search needs
 
 kept-requires : tie.Need-kept-requires Inv-loop μ-loop
-kept-requires c κs = search needs
+kept-requires c κs =
+    search needs
 
 returns-2 : tie.Need-returns-2 Inv-loop μ-loop
 returns-2 c =
-    c .kept .ensures ∙ cleaning-fatal _ _ _ _ (c .before .before .before .before .before .before .before .before .loop .inv) _
-    (c .before .before .before .before .before .before .before .clean-frame .ensures) (c .before .enum-told3 .given .1)
+    c .kept .ensures ∙ cleaning-fatal _ _ _ _ (c .before .before .before .before .before .before .meet .last .1 .1 .1 .1 .1 .1 .1 .0) (c .before .before .before .before .before .before .meet .result) (c .before .before .before .before .before .before .meet .ensures) _ _ refl _ (c .before .before .before .before .before .before .before .before .before .before .before .sp-column .ensures .0) refl _
+    (c .before .before .before .clean-turn .ensures) (c .before .before .before .before .before .before .before .before .loop .inv) (c .before .enum-told2 .given .1)
 
-enum-known-turn : tie.Need-enum-known-turn Inv-loop μ-loop
-enum-known-turn c = search needs
+enum-known-n : tie.Need-enum-known-n Inv-loop μ-loop
+enum-known-n c =
+    search needs
 
 kept-requires-2 : tie.Need-kept-requires-2 Inv-loop μ-loop
-kept-requires-2 c κs = search needs
+kept-requires-2 c κs =
+    search needs
 
 returns-3 : tie.Need-returns-3 Inv-loop μ-loop
 returns-3 c =
-    c .kept2 .ensures ∙ cleaning-refused _ _ _ _
-    (c .before .before .before .before .before .before .before .before .before .loop .inv) _
-    (c .before .before .before .before .before .before .before .before .clean-frame .ensures) _
-    (c .before .before .turn .given .1)
+    c .kept2 .ensures ∙ cleaning-refused _ _ _ _ (c .before .before .before .before .before .before .before .meet .last .1 .1 .1 .1 .1 .1 .1 .0) (c .before .before .before .before .before .before .before .meet .result) (c .before .before .before .before .before .before .before .meet .ensures) _ _ refl _ (c .before .before .before .before .before .before .before .before .before .before .before .before .sp-column .ensures .0) refl _
+    (c .before .before .before .before .clean-turn .ensures) (c .before .before .before .before .before .before .before .before .before .loop .inv) _ (c .before .before .n .given .1)
 
 pub clean-spec : {M : Type 1} → statement M
 clean-spec =
@@ -84,18 +119,22 @@ clean-spec =
     (tie.spec
     Inv-loop
     μ-loop
+    sp-column-requires
     loop-holds
-    clean-frame-requires
+    meet-requires
+    mul-clean-turn
+    array-read-clean-turn
+    clean-turn-requires
     enum-told
-    going-on-requires
+    add-number
     loop-less
     loop-again
-    enum-told-2
-    going-on-requires-2
+    enum-known-start
+    landed-requires
     returns
-    enum-told-3
+    enum-told-2
     kept-requires
     returns-2
-    enum-known-turn
+    enum-known-n
     kept-requires-2
     returns-3)

@@ -1,0 +1,41 @@
+-- `unwind::caller_by_run` meets its contract. Assumes nothing.
+use mathlib.Core.Path.{_∙_}
+use Rattle.personality.proofs.Ran.{ran-done, ran-refused}
+use Rattle.unwind.proofs.Walks.{next-told, by-run, by-run-refused}
+use borrow.Author.Needs.{needs}
+use Rattle.unwind.proofs.caller_by_run.Statement.{statement}
+use Rattle.unwind.proofs.caller_by_run.Tie as tie
+use Rattle.frame.proofs.apply_state.Reads as apply-state-reads
+use Rattle.program.proofs.run_program.Reads as run-program-reads
+
+run-program-requires : tie.Need-run-program-requires
+run-program-requires c κs = search needs
+
+enum-told : tie.Need-enum-told
+enum-told c = search needs
+
+apply-state-requires : tie.Need-apply-state-requires
+apply-state-requires c κs = search needs
+
+enum-known-status : tie.Need-enum-known-status
+enum-known-status c = search needs
+
+returns : tie.Need-returns
+returns c =
+    next-told _ _ _ (c .before .before .apply-state .ensures)
+    ∙ by-run _ _ _ _ _ _ _ (ran-done _ _ _ (c .before .before .before .before .before .before .run-program .ensures) (c .before .before .before .before .enum-told .given .1))
+
+returns-2 : tie.Need-returns-2
+returns-2 c =
+    by-run-refused _ _ _ _ _ _ _ (ran-refused _ _ _ (c .before .before .before .run-program .ensures) _ (c .before .status .given .1))
+
+pub caller-by-run-spec : {M : Type 1} → statement M
+caller-by-run-spec =
+    tie.close
+    (tie.spec
+    run-program-requires
+    enum-told
+    apply-state-requires
+    enum-known-status
+    returns
+    returns-2)

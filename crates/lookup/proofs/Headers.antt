@@ -1,5 +1,5 @@
 -- Laws of `stride`, `faulty` and `headAt`. Assumes nothing.
-use mathlib.Core.Path.{_≡_, refl, ap, subst}
+use mathlib.Core.Path.{_≡_, refl, sym, _∙_, ap, subst}
 use mathlib.Core.Bool.{Bool, true, false, not, _||_, or-true}
 use mathlib.Core.List.{List}
 use Prim.Native.Nat.{ℕ, suc, _+_, _-_, _*_, _%_, _≤_, _<_}
@@ -130,10 +130,14 @@ module _ (bytes : List ℕ) (arch k : ℕ) where
       let s = stride-known (word bytes (k + 4) 1) (t .0) in
       (refl, record { whole = t .2; room = t .1; long = s .0; longer = s .1 }, omega (arith, t .1))
 
-  -- where a chunk stands: it starts there, lies in the part with its records, and has its header
-  pub head-inside : (c : Chunk) → headAt bytes arch k ≡ Here c → (c .offset ≡ k) × Inside bytes c × (16 ≤ c .size)
+  pub header-room : Inside bytes (chunkAt bytes k) → k + 16 ≤ length bytes
+  unfolding chunkAt
+  header-room h = omega (arith, h .whole, h .room)
+
+  -- where a chunk stands, it is the one whose header is read there, and does not get 17
+  head-made : (c : Chunk) → headAt bytes arch k ≡ Here c → (chunkAt bytes k ≡ c) × (faulty bytes arch k (chunkAt bytes k) ≡ false)
   unfolding headAt
-  head-inside c e = go (eqb (word bytes k 4) 0) refl (faulty bytes arch k (chunkAt bytes k)) refl
+  head-made c e = go (eqb (word bytes k 4) 0) refl (faulty bytes arch k (chunkAt bytes k)) refl
     where
       padding : _≡_ {A = Head} Padding (Here c) → ⊥
       padding p = let z : _≡_ {A = ℕ} 0 1 = cc in omega arith
@@ -145,9 +149,16 @@ module _ (bytes : List ℕ) (arch k : ℕ) where
       same p = cc
 
       go : (z : Bool) → eqb (word bytes k 4) 0 ≡ z → (f : Bool) → faulty bytes arch k (chunkAt bytes k) ≡ f →
-          (c .offset ≡ k) × Inside bytes c × (16 ≤ c .size)
+          (chunkAt bytes k ≡ c) × (faulty bytes arch k (chunkAt bytes k) ≡ false)
       go true z f h = absurd (padding (rw z at e))
       go false z true h = absurd (fault (rw (z, h) at e))
-      go false z false h =
-          subst (λ (x : Chunk). (x .offset ≡ k) × Inside bytes x × (16 ≤ x .size)) (same (rw (z, h) at e))
-          (chunk-inside h)
+      go false z false h = (same (rw (z, h) at e), h)
+
+  -- it starts there, lies in the part with its records, and has its header
+  pub head-inside : (c : Chunk) → headAt bytes arch k ≡ Here c → (c .offset ≡ k) × Inside bytes c × (16 ≤ c .size)
+  head-inside c e =
+      let (same, passed) = head-made c e in
+      subst (λ (x : Chunk). (x .offset ≡ k) × Inside bytes x × (16 ≤ x .size)) same (chunk-inside passed)
+
+  pub head-chunk : (c : Chunk) → headAt bytes arch k ≡ Here c → c ≡ chunkAt bytes (c .offset)
+  head-chunk c e = sym (head-made c e .0) ∙ ap (chunkAt bytes) (sym (head-inside c e .0))

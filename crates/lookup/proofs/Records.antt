@@ -1,17 +1,17 @@
 -- Laws of `recordOf`. Assumes nothing.
-use mathlib.Core.Path.{_≡_, refl, sym}
+use mathlib.Core.Path.{_≡_, refl, sym, _∙_, ap}
 use mathlib.Core.Bool.{Bool, true, false, and-false, or-true, or-false}
 use mathlib.Core.List.{List}
-use Prim.Native.Nat.{ℕ, _+_, _≤_, _<_}
+use Prim.Native.Nat.{ℕ, zero, suc, _+_, _-_, _*_, _^_, _%_, _≤_, _<_}
 use native.Mathlib.Omega.{arith}
-use native.Mathlib.Nat.{mul-le-mul-right, suc-mul}
+use native.Mathlib.Nat.{mul-le-mul-right, suc-mul, zero-mul, one-mul, add-mul, le-of-mul-le-mul-right}
 use lib.Dec.{eqb, leb, ltb}
 use lib.ListN.{length}
-use borrow.Author.Tests.{eq-eqb, ne-eqb, le-leb, lt-leb, lt-ltb, le-ltb, leb-true, ltb-true}
+use borrow.Author.Tests.{eq-eqb, ne-eqb, le-leb, lt-leb, lt-ltb, le-ltb, leb-true, ltb-true, ltb-false}
 use Rattle.mem.specs.Wrapping.{sum, signed32}
 use Rattle.lookup.specs.Field.{word}
-use Rattle.lookup.specs.Record.{startAt, endAt, addressOf, offsetOf, handlersOf, recordAt, recordAt2, placeOf, recordOf, holds, badRecord}
-use Rattle.lookup.specs.Steps.{Inside}
+use Rattle.lookup.specs.Record.{startAt, endAt, addressOf, offsetOf, handlersOf, recordAt, recordAt2, placeOf, recordIn, recordOf, holds, badRecord}
+use Rattle.lookup.specs.Steps.{Inside, Stands, Stand}
 use Rattle.mem.proofs.Tests.{both}
 use Rattle.lookup.specs.declared.Chunk.{Chunk}
 use Rattle.lookup.specs.declared.Record.{Record}
@@ -38,20 +38,84 @@ module _ (bytes : List ℕ) (base : ℕ) (c : Chunk) (i : ℕ) where
       go true e = rw e
       go false e = rw e
 
--- which addresses a record holds, from a copy of it
+-- where records stand
+module _ (c : Chunk) where
+  pub first-stands : 0 < c .count → Stands c 0 (c .offset + 16)
+  first-stands h = record { below = h; place = omega (arith, zero-mul (c .stride)) }
+
+  pub last-stands : 0 < c .count → Stands c (c .count - 1) (c .offset + 16 + (c .count - 1) * c .stride)
+  last-stands h = record { below = omega arith; place = refl }
+
+  module _ (bytes : List ℕ) (inside : Inside bytes c) (k : ℕ) where
+    pub stand-room : Stand c k → k + c .stride ≤ length bytes
+    stand-room s = omega (arith, record-room bytes c (s .index) inside (s .stands .below), s .stands .place)
+
+    module _ (i : ℕ) (s : Stands c i k) where
+      -- the one at the first offset is the first
+      pub first-number : k ≡ c .offset + 16 → i ≡ 0
+      first-number e = go i (s .place)
+        where
+          go : (j : ℕ) → k ≡ placeOf c j → j ≡ 0
+          go zero p = refl
+          go (suc j) p = absurd (omega (arith, suc-mul j (c .stride), inside .long))
+
+      -- any other has a left neighbour
+      pub left-stands : (k ≡ c .offset + 16 → ⊥) → (0 < i) × (c .stride ≤ k) × Stands c (i - 1) (k - c .stride)
+      left-stands n = go i (s .below) (s .place)
+        where
+          go : (j : ℕ) → j < c .count → k ≡ placeOf c j → (0 < j) × (c .stride ≤ k) × Stands c (j - 1) (k - c .stride)
+          go zero l p = absurd (n (omega (arith, zero-mul (c .stride))))
+          go (suc j) l p =
+              let back : j ≡ suc j - 1 = omega arith in
+              let left : k - c .stride ≡ placeOf c j = omega (arith, suc-mul j (c .stride)) in (
+                omega arith,
+                omega (arith, suc-mul j (c .stride)),
+                record { below = omega arith; place = left ∙ ap (λ (x : ℕ). placeOf c x) back },
+              )
+
+      -- the one at the last offset is the last
+      pub last-number : k + c .stride ≡ c .offset + 16 + c .count * c .stride → c .count ≤ i + 1
+      last-number e =
+          le-of-mul-le-mul-right {k = c .stride} (omega (arith, add-mul i 1 (c .stride), one-mul (c .stride), s .place)) (omega (arith, inside .long))
+
+      -- any other has a right neighbour
+      pub right-stands : (k + c .stride ≡ c .offset + 16 + c .count * c .stride → ⊥) → Stands c (i + 1) (k + c .stride)
+      right-stands n = go (ltb (i + 1) (c .count)) refl
+        where
+          next : k + c .stride ≡ placeOf c (i + 1)
+          next = omega (arith, add-mul i 1 (c .stride), one-mul (c .stride), s .place)
+
+          go : (t : Bool) → ltb (i + 1) (c .count) ≡ t → Stands c (i + 1) (k + c .stride)
+          go true t = record { below = ltb-true (i + 1) (c .count) t; place = next }
+          go false t =
+              let last : i + 1 ≡ c .count = omega (arith, ltb-false (i + 1) (c .count) t, s .below) in
+              absurd (n (next ∙ ap (λ (j : ℕ). placeOf c j) last))
+
+  -- what is read there
+  module _ (bytes : List ℕ) (base i k : ℕ) (s : Stands c i k) where
+    pub stands-start : startAt bytes base k ≡ recordOf bytes base c i .start
+    stands-start = ap (startAt bytes base) (s .place) ∙ sym (record-start bytes base c i)
+
+    pub stands-end : endAt bytes base k ≡ recordOf bytes base c i .end
+    stands-end = ap (endAt bytes base) (s .place) ∙ sym (record-end bytes base c i)
+
+    pub stands-record : recordIn bytes base c k ≡ recordOf bytes base c i
+    unfolding recordOf
+    stands-record = ap (λ (j : ℕ). recordIn bytes base c j) (s .place)
+
+-- which addresses a record holds, from its start or end
 module _ (r : Record) (a : ℕ) where
-  module _ (x : Record) (e : x ≡ r) where
-    pub holds-below : a < x .start → holds r a ≡ false
-    unfolding holds
-    holds-below h = rw (sym e) (simp (lt-leb _ _ h))
+  pub holds-below : (s : ℕ) → s ≡ r .start → a < s → holds r a ≡ false
+  unfolding holds
+  holds-below s p h = rw (sym p) (simp (lt-leb _ _ h))
 
-    pub holds-above : x .end ≤ a → holds r a ≡ false
-    unfolding holds
-    holds-above h = rw (sym e) (simp (le-ltb _ _ h, and-false))
+  pub holds-above : (e : ℕ) → e ≡ r .end → e ≤ a → holds r a ≡ false
+  unfolding holds
+  holds-above e q h = rw (sym q) (simp (le-ltb _ _ h, and-false))
 
-    pub holds-within : x .start ≤ a → a < x .end → holds r a ≡ true
-    unfolding holds
-    holds-within l h = rw (sym e) (simp (le-leb _ _ l, lt-ltb _ _ h))
+  pub holds-within : (s e : ℕ) → s ≡ r .start → e ≡ r .end → s ≤ a → a < e → holds r a ≡ true
+  unfolding holds
+  holds-within s e p q l h = rw (sym p, sym q) (simp (le-leb _ _ l, lt-ltb _ _ h))
 
   pub within-holds : holds r a ≡ true → (r .start ≤ a) × (a < r .end)
   unfolding holds
@@ -76,6 +140,14 @@ module _ (r : Record) where
   pub bad-table : r .version ≡ 2 → r .program < r .limit → (r .handlers ≡ 0 → ⊥) → eqb (r .program) 0 ≡ badRecord r
   unfolding badRecord
   bad-table v p h = simp (eq-eqb _ _ v, lt-leb _ _ p, ne-eqb _ _ h, or-false)
+
+-- a word that is moved up by 2^31, modulo 2^32, and down again is read as a signed number
+pub signed-made : (w s r : ℕ) → w < 2 ^ 32 → s ≡ (w + 2 ^ 31) % 2 ^ 32 → r ≡ sum s (2 ^ 64 - 2 ^ 31) → r ≡ signed32 w
+signed-made w s r h p q = go (ltb w (2 ^ 31)) refl
+  where
+    go : (t : Bool) → ltb w (2 ^ 31) ≡ t → r ≡ signed32 w
+    go true e = rw e (omega (arith, ltb-true w (2 ^ 31) e))
+    go false e = rw e (omega (arith, ltb-false w (2 ^ 31) e))
 
 -- what is made of the fields that were read
 module _ (bytes : List ℕ) (base k : ℕ) where

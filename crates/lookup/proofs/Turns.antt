@@ -1,6 +1,5 @@
 -- Laws of `find` and `lookup`, turn by turn. Assumes nothing.
-use mathlib.Core.Path.{_≡_, refl, sym, _∙_}
-use mathlib.Core.Bool.{true, false}
+use mathlib.Core.Path.{_≡_, refl, sym}
 use mathlib.Core.List.{List}
 use mathlib.Core.Option.{none, some}
 use Prim.Native.Nat.{ℕ, zero, suc, _+_, _≤_, _<_}
@@ -8,56 +7,17 @@ use native.Mathlib.Omega.{arith}
 use lib.ListN.{length}
 use borrow.Author.Tests.{lt-ltb, le-ltb}
 use Rattle.failure.specs.Outcome.{Refused, Answer}
-use Rattle.failure.specs.Failure.{BadEkoHeader, BadEkoRecord, EkoUnsorted}
-use Rattle.lookup.specs.Header.{headAt}
-use Rattle.lookup.specs.Record.{badRecord}
-use Rattle.lookup.specs.Steps.{follows, Tried, Turned}
-use Rattle.lookup.specs.Tables.{Fault, chunksFrom, chunks}
-use Rattle.lookup.specs.Lookup.{Found, searchIn, find, lookup, looked}
+use Rattle.failure.specs.Failure.{BadEkoHeader, EkoUnsorted}
+use Rattle.lookup.specs.Header.{chunkAt, headAt}
+use Rattle.lookup.specs.Record.{recordIn}
+use Rattle.lookup.specs.Steps.{placed}
+use Rattle.lookup.specs.Tables.{chunksFor, chunksFrom, chunks}
+use Rattle.lookup.specs.Lookup.{Found, searchIn, answerOr, find, lookup}
 use Rattle.lookup.specs.declared.Chunk.{Chunk}
 use Rattle.lookup.specs.declared.Record.{Record}
 use Rattle.lookup.specs.declared.Head.the-variants as head
-use Rattle.lookup.specs.declared.Lookup.{Lookup}
-use Rattle.lookup.specs.declared.Lookup.the-variants as variant
-use Rattle.lookup.specs.declared.Turn.{Turn}
-use Rattle.lookup.specs.declared.Turn.the-variants.{Next, Stop}
+use Rattle.lookup.specs.declared.Place.the-variants as place
 use Rattle.lookup.proofs.Headers.{head-inside}
-
--- a turn that stops goes nowhere
-stops : (l : Lookup) (k : ℕ) → Stop l ≡ Next k → ⊥
-stops l k e = let z : _≡_ {A = ℕ} 0 1 = cc in omega arith
-
--- what a chunk's search comes to, as a turn
-module _ (bytes : List ℕ) (base pc : ℕ) (c : Chunk) where
-  pub tried-bad : (r : Record) → Answer (some r) ≡ searchIn bytes base pc c → badRecord r ≡ true →
-      Tried bytes base pc c (Stop variant.BadEkoRecord)
-  tried-bad r e b = record { same = λ next. rw (sym e) (simp b); goes = λ k p. absurd (stops _ k p) }
-
-  pub tried-found : (r : Record) → Answer (some r) ≡ searchIn bytes base pc c → badRecord r ≡ false →
-      Tried bytes base pc c (Stop (variant.Found r c))
-  tried-found r e b = record { same = λ next. rw (sym e) (simp b); goes = λ k p. absurd (stops _ k p) }
-
-  pub tried-next : Answer none ≡ searchIn bytes base pc c → Tried bytes base pc c (Next (c .offset + c .size))
-  tried-next e = record { same = λ next. rw (sym e); goes = λ k p. cc }
-
-  pub tried-unsorted : Refused EkoUnsorted ≡ searchIn bytes base pc c → Tried bytes base pc c (Stop variant.EkoUnsorted)
-  tried-unsorted e = record { same = λ next. rw (sym e); goes = λ k p. absurd (stops _ k p) }
-
--- what stands at an offset, as a turn
-module _ (bytes : List ℕ) (base pc arch k : ℕ) (room : k + 16 ≤ length bytes) where
-  pub turned-padding : head.Padding ≡ headAt bytes arch k → Turned bytes base pc arch k (Next (k + 4))
-  turned-padding e = record { same = λ next. rw (sym e); goes = λ j p. let q : j ≡ k + 4 = cc in (omega arith, omega arith) }
-
-  pub turned-fault : head.Fault ≡ headAt bytes arch k → Turned bytes base pc arch k (Stop variant.BadEkoHeader)
-  turned-fault e = record { same = λ next. rw (sym e); goes = λ j p. absurd (stops _ j p) }
-
-  pub turned-here : (c : Chunk) (t : Turn) → head.Here c ≡ headAt bytes arch k → Tried bytes base pc c t → Turned bytes base pc arch k t
-  turned-here c t e s =
-      let (at, inside, large) = head-inside bytes arch k c (sym e) in
-      record {
-        same = λ next. rw (sym e, sym at) (s .same next);
-        goes = λ j p. let q = s .goes j p in (omega arith, omega (arith, inside .whole));
-      }
 
 -- the lookup has come to offset k
 pub record Looking (bytes : List ℕ) (base pc arch k : ℕ) : Type 0 where
@@ -73,37 +33,39 @@ module _ (bytes : List ℕ) (base pc arch : ℕ) where
 
   module _ (k : ℕ) where
     -- while 16 bytes remain, some fuel is left
-    step : Looking bytes base pc arch k → k + 16 ≤ length bytes → (t : Turn) → Turned bytes base pc arch k t → (n : ℕ) →
-        lookup bytes base pc arch ≡ find bytes base pc (chunksFrom (suc n) bytes arch k) →
-        follows t (λ (j : ℕ). find bytes base pc (chunksFrom n bytes arch j)) ≡ lookup bytes base pc arch
-    unfolding chunksFrom
-    step s room t p n e =
-        p .same (λ (j : ℕ). chunksFrom n bytes arch j) ∙ sym (simp (le-ltb (length bytes) (k + 16) room) at e)
+    record Ahead : Type 0 where
+      pub fuel : ℕ
+      pub same : lookup bytes base pc arch ≡ find bytes base pc (chunksFor (headAt bytes arch k) k (λ (j : ℕ). chunksFrom fuel bytes arch j))
+      pub enough : length bytes ≤ fuel + k + 1
 
-    pub looking-next : Looking bytes base pc arch k → k + 16 ≤ length bytes → (t : Turn) → Turned bytes base pc arch k t →
-        (j : ℕ) → t ≡ Next j → Looking bytes base pc arch j
-    looking-next s room t p j q = go (s .fuel) (s .same) (s .enough)
-      where
-        go : (n : ℕ) → lookup bytes base pc arch ≡ find bytes base pc (chunksFrom n bytes arch k) → length bytes ≤ n + k →
-            Looking bytes base pc arch j
-        go zero e f = absurd (omega arith)
-        go (suc n) e f =
-            let moved = p .goes j q in
-            record {
-              fuel = n;
-              same = sym (rw q at (step s room t p n e));
-              enough = omega arith;
-              inside = moved .1;
-            }
+    module _ (s : Looking bytes base pc arch k) (room : k + 16 ≤ length bytes) where
+      ahead : Ahead
+      unfolding chunksFrom
+      ahead = go (s .fuel) (s .same) (s .enough)
+        where
+          go : (n : ℕ) → lookup bytes base pc arch ≡ find bytes base pc (chunksFrom n bytes arch k) → length bytes ≤ n + k → Ahead
+          go zero e f = absurd (omega arith)
+          go (suc n) e f = record { fuel = n; same = simp (le-ltb (length bytes) (k + 16) room) at e; enough = omega arith }
 
-    pub looking-stop : Looking bytes base pc arch k → k + 16 ≤ length bytes → (t : Turn) → Turned bytes base pc arch k t →
-        (l : Lookup) → t ≡ Stop l → looked l ≡ lookup bytes base pc arch
-    looking-stop s room t p l q = go (s .fuel) (s .same) (s .enough)
-      where
-        go : (n : ℕ) → lookup bytes base pc arch ≡ find bytes base pc (chunksFrom n bytes arch k) → length bytes ≤ n + k →
-            looked l ≡ lookup bytes base pc arch
-        go zero e f = absurd (omega arith)
-        go (suc n) e f = rw q at (step s room t p n e)
+      -- by what stands at k: padding, a header that gets 17
+      pub looking-padding : head.Padding ≡ headAt bytes arch k → Looking bytes base pc arch (k + 4)
+      looking-padding e = record { fuel = ahead .fuel; same = rw (sym e) at (ahead .same); enough = omega (arith, ahead .enough); inside = omega arith }
+
+      pub looking-fault : head.Fault ≡ headAt bytes arch k → Refused BadEkoHeader ≡ lookup bytes base pc arch
+      looking-fault e = sym (rw (sym e) at (ahead .same))
+
+      -- a chunk, by what its search comes to
+      module _ (c : Chunk) (e : head.Here c ≡ headAt bytes arch k) where
+        pub looking-next : Answer none ≡ searchIn bytes base pc c → Looking bytes base pc arch (k + c .size)
+        looking-next p =
+            let (at, inside, large) = head-inside bytes arch k c (sym e) in
+            record { fuel = ahead .fuel; same = rw (sym e, sym p) at (ahead .same); enough = omega (arith, ahead .enough); inside = omega (arith, inside .whole) }
+
+        pub looking-unsorted : Refused EkoUnsorted ≡ searchIn bytes base pc c → Refused EkoUnsorted ≡ lookup bytes base pc arch
+        looking-unsorted p = sym (rw (sym e, sym p) at (ahead .same))
+
+        pub looking-held : (r : Record) → Answer (some r) ≡ searchIn bytes base pc c → answerOr c (Answer none) (some r) ≡ lookup bytes base pc arch
+        looking-held r p = sym (rw (sym e, sym p) at (ahead .same))
 
     pub looking-over : Looking bytes base pc arch k → length bytes < k + 16 → Answer none ≡ lookup bytes base pc arch
     unfolding chunksFrom
@@ -112,3 +74,8 @@ module _ (bytes : List ℕ) (base pc arch : ℕ) where
         go : (n : ℕ) → lookup bytes base pc arch ≡ find bytes base pc (chunksFrom n bytes arch k) → Answer none ≡ lookup bytes base pc arch
         go zero e = sym e
         go (suc n) e = sym (simp (lt-ltb (length bytes) (k + 16) short) at e)
+
+-- what is made of a place
+pub found-made : (bytes : List ℕ) (base k at : ℕ) (r : Record) (c : Chunk) → c ≡ chunkAt bytes k → r ≡ recordIn bytes base c at →
+    Answer (some (record { function = r; chunk = c })) ≡ placed bytes base (place.At k at)
+found-made bytes base k at r c p q = rw (q, p)

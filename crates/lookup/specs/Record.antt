@@ -60,11 +60,15 @@ recordAt2 bytes base chunk limit k =
 abbrev pub placeOf : Chunk → ℕ → ℕ
 placeOf c i = c .offset + 16 + i * c .stride
 
+-- the record at offset k of a chunk
+abbrev pub recordIn : List ℕ → ℕ → Chunk → ℕ → Record
+recordIn bytes base c k =
+    if eqb (c .version) 1 then recordAt bytes base (sum base (c .offset)) k
+    else recordAt2 bytes base (sum base (c .offset)) (sum (sum base (c .offset)) (c .size)) k
+
 -- record number i of a chunk
 unfoldable pub recordOf : List ℕ → ℕ → Chunk → ℕ → Record
-recordOf bytes base c i =
-    if eqb (c .version) 1 then recordAt bytes base (sum base (c .offset)) (placeOf c i)
-    else recordAt2 bytes base (sum base (c .offset)) (sum (sum base (c .offset)) (c .size)) (placeOf c i)
+recordOf bytes base c i = recordIn bytes base c (placeOf c i)
 
 -- a record holds an address
 unfoldable pub holds : Record → ℕ → Bool

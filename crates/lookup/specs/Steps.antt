@@ -1,20 +1,22 @@
 -- What the steps of the code say of each other: no definition of lookup goes through these.
+use mathlib.Core.Bool.{Bool}
 use mathlib.Core.List.{List}
 use mathlib.Core.Option.{Option, none, some}
 use mathlib.Core.Path.{_≡_}
 use Prim.Native.Nat.{ℕ, _+_, _*_, _≤_, _<_}
 use lib.ListN.{length}
 use Rattle.failure.specs.Outcome.{Outcome, Refused, Answer}
-use Rattle.failure.specs.Failure.{EkoUnsorted}
-use Rattle.lookup.specs.Header.{headAt}
-use Rattle.lookup.specs.Tables.{Chunks, _▸_, chunksFor}
-use Rattle.lookup.specs.Lookup.{Found, find, looked}
+use Rattle.failure.specs.Failure.{BadEkoHeader, BadEkoRecord, EkoUnsorted}
+use Rattle.lookup.specs.Header.{chunkAt}
+use Rattle.lookup.specs.Record.{placeOf, recordIn, recordOf}
+use Rattle.lookup.specs.Search.{halve}
+use Rattle.lookup.specs.Lookup.{Found}
 use Rattle.lookup.specs.declared.Chunk.{Chunk}
 use Rattle.lookup.specs.declared.Record.{Record}
 use Rattle.lookup.specs.declared.Searched.{Searched}
 use Rattle.lookup.specs.declared.Searched.the-variants.{Held, NotHeld, Unsorted}
-use Rattle.lookup.specs.declared.Turn.{Turn}
-use Rattle.lookup.specs.declared.Turn.the-variants.{Next, Stop}
+use Rattle.lookup.specs.declared.Place.{Place}
+use Rattle.lookup.specs.declared.Place.the-variants as place
 
 -- a chunk lies in the part with all its records, whose length is its version's
 pub record Inside (bytes : List ℕ) (c : Chunk) : Type 0 where
@@ -23,25 +25,49 @@ pub record Inside (bytes : List ℕ) (c : Chunk) : Type 0 where
   pub long : 12 ≤ c .stride
   pub longer : c .version ≡ 1 → 16 ≤ c .stride
 
--- document 01's number and values for each case of a Searched
-abbrev pub searched : Searched → Outcome (Option Record)
-searched (Held r) = Answer (some r)
-searched NotHeld = Answer none
-searched Unsorted = Refused EkoUnsorted
+-- record number i of a chunk stands at offset k
+pub record Stands (c : Chunk) (i k : ℕ) : Type 0 where
+  pub below : i < c .count
+  pub place : k ≡ placeOf c i
 
--- what a turn of the lookup comes to; `next` has what the chunks from an offset on come to
-abbrev pub follows : Turn → (ℕ → Outcome (Option Found)) → Outcome (Option Found)
-follows (Next k) next = next k
-follows (Stop l) next = looked l
+-- some record of a chunk does
+pub record Stand (c : Chunk) (k : ℕ) : Type 0 where
+  pub index : ℕ
+  pub stands : Stands c index k
 
--- a turn goes on at the chunk's end, or answers as the chunk does
-pub record Tried (bytes : List ℕ) (base pc : ℕ) (c : Chunk) (t : Turn) : Type 0 where
-  pub same : (next : ℕ → Chunks) →
-      follows t (λ (k : ℕ). find bytes base pc (next k)) ≡ find bytes base pc (c ▸ next (c .offset + c .size))
-  pub goes : (k : ℕ) → t ≡ Next k → k ≡ c .offset + c .size
+-- a test of the record at offset k of a chunk comes to what it does for the record's number
+abbrev pub Meets : Chunk → ℕ → (ℕ → Bool) → Bool → Type 0
+Meets c k test b = (i : ℕ) → Stands c i k → b ≡ test i
 
--- a turn goes on past offset k and within the part, or answers as what stands at k does
-pub record Turned (bytes : List ℕ) (base pc arch k : ℕ) (t : Turn) : Type 0 where
-  pub same : (next : ℕ → Chunks) →
-      follows t (λ (j : ℕ). find bytes base pc (next j)) ≡ find bytes base pc (chunksFor (headAt bytes arch k) k next)
-  pub goes : (j : ℕ) → t ≡ Next j → (k < j) × (j ≤ length bytes)
+-- the record of a chunk that halving ends at
+abbrev pub halved : List ℕ → ℕ → Chunk → ℕ → ℕ
+halved bytes base c pc = halve (c .count) (recordOf bytes base c) pc 0 (c .count)
+
+-- document 01's number and values for each case of a Searched, in a chunk
+abbrev pub searched : List ℕ → ℕ → Chunk → Searched → Outcome (Option Record)
+searched bytes base c (Held k) = Answer (some (recordIn bytes base c k))
+searched bytes base c NotHeld = Answer none
+searched bytes base c Unsorted = Refused EkoUnsorted
+
+-- a record that is held is one of the chunk
+abbrev pub HeldIn : Chunk → Searched → Type 0
+HeldIn c (Held k) = Stand c k
+HeldIn c NotHeld = Unit
+HeldIn c Unsorted = Unit
+
+-- document 01's number and values for each case of a Place
+abbrev pub placed : List ℕ → ℕ → Place → Outcome (Option Found)
+placed bytes base (place.At k at) =
+    Answer (some (record { function = recordIn bytes base (chunkAt bytes k) at; chunk = chunkAt bytes k }))
+placed bytes base place.None = Answer none
+placed bytes base place.BadEkoHeader = Refused BadEkoHeader
+placed bytes base place.BadEkoRecord = Refused BadEkoRecord
+placed bytes base place.EkoUnsorted = Refused EkoUnsorted
+
+-- a place is that of a record of a chunk in the part
+abbrev pub Lies : List ℕ → Place → Type 0
+Lies bytes (place.At k at) = Inside bytes (chunkAt bytes k) × Stand (chunkAt bytes k) at
+Lies bytes place.None = Unit
+Lies bytes place.BadEkoHeader = Unit
+Lies bytes place.BadEkoRecord = Unit
+Lies bytes place.EkoUnsorted = Unit

@@ -3,13 +3,16 @@
 // part's first byte. `lookup_part` searches any part; `lookup_arch` and `chunk_of` take what is lent, and refuse with 28 first.
 ghost use mathlib.Core.Path.{_≡_};
 ghost use Prim.Native.Nat.{_+_, _^_, _<_, _≤_};
+ghost use mathlib.Core.Option.{none, some};
 ghost use lib.ListN.{length};
+ghost use Rattle.failure.specs.Outcome.{Answer};
+ghost use Rattle.mem.specs.Wrapping.{signed32};
 ghost use Rattle.lookup.specs.Field.{word};
 ghost use Rattle.lookup.specs.Header as Header;
-ghost use Rattle.lookup.specs.Record.{startAt, endAt, addressOf, handlersOf, recordAt, recordAt2, recordOf, badRecord};
-ghost use Rattle.lookup.specs.Steps.{Inside, searched, Tried, Turned};
+ghost use Rattle.lookup.specs.Record.{startAt, endAt, addressOf, handlersOf, recordAt, recordAt2, recordIn, recordOf, badRecord};
+ghost use Rattle.lookup.specs.Steps.{Inside, Stands, Stand, Meets, halved, searched, HeldIn, placed, Lies};
 ghost use Rattle.lookup.specs.Search as Search;
-ghost use Rattle.lookup.specs.Lookup.{looked, lookup, lookupArch, searchIn, ChunkOf};
+ghost use Rattle.lookup.specs.Lookup.{looked, lookup, lookupArch, searchIn, answerOr, ChunkOf};
 use mem::opening;
 use mem::wrapping;
 
@@ -71,17 +74,20 @@ enum Head {
     Here(Chunk),
 }
 
-// What the search of one chunk comes to.
+// What the search of one chunk comes to: the offset of the record that holds pc.
 enum Searched {
-    Held(Record),
+    Held(usize),
     NotHeld,
     Unsorted,
 }
 
-// What one turn of the lookup comes to: the next offset, or the answer.
-enum Turn {
-    Next(usize),
-    Stop(Lookup),
+// Where a lookup ends: the offsets of the chunk and of the record.
+enum Place {
+    At(usize, usize),
+    None,
+    BadEkoHeader,
+    BadEkoRecord,
+    EkoUnsorted,
 }
 
 // Fields.
@@ -196,12 +202,20 @@ fn head_at(part: &[u8], arch: u8, k: usize) -> Head
 
 // Records.
 
+// A 32-bit word read as a signed number, modulo 2^64: compiled to one instruction.
+fn extended(word: u32) -> usize
+    ensures { λ r. ⌜ r ≡ signed32 word ⌝ }
+{
+    let shifted = std::num::wrapping_add_u32(word, 0x8000_0000);
+    wrapping::add(shifted as usize, 0xffff_ffff_8000_0000)
+}
+
 // The start that the record at offset k gives.
 fn start_at(part: &[u8], base: usize, k: usize) -> usize
     requires { ⌜ k + 4 ≤ length (now part) ⌝ }
     ensures { λ r. ⌜ r ≡ startAt (now (part .entry)) base k ⌝ }
 {
-    wrapping::add(wrapping::add(base, k), wrapping::extend(u32_at(part, k)))
+    wrapping::add(wrapping::add(base, k), extended(u32_at(part, k)))
 }
 
 // The end that the record at offset k gives.
@@ -265,12 +279,11 @@ fn record_at2(part: &[u8], base: usize, chunk: usize, limit: usize, k: usize) ->
     }
 }
 
-// Record number i of a chunk.
-fn rec(part: &[u8], base: usize, c: Chunk, i: usize) -> Record
-    requires { ⌜ Inside (now part) c × (i < c .count) ⌝ }
-    ensures { λ r. ⌜ r ≡ recordOf (now (part .entry)) base c i ⌝ }
+// The record at offset k of a chunk.
+fn rec(part: &[u8], base: usize, c: Chunk, k: usize) -> Record
+    requires { ⌜ Inside (now part) c × Stand c k ⌝ }
+    ensures { λ r. ⌜ r ≡ recordIn (now (part .entry)) base c k ⌝ }
 {
-    let k = c.offset + HEADER + i * c.stride;
     let chunk = wrapping::add(base, c.offset);
     if c.version == VERSION {
         return record_at(part, base, chunk, k);
@@ -278,114 +291,94 @@ fn rec(part: &[u8], base: usize, c: Chunk, i: usize) -> Record
     record_at2(part, base, chunk, wrapping::add(chunk, c.size), k)
 }
 
-// The start of record number i of a chunk.
-fn rec_start(part: &[u8], base: usize, c: Chunk, i: usize) -> usize
-    requires { ⌜ Inside (now part) c × (i < c .count) ⌝ }
-    ensures { λ r. ⌜ r ≡ recordOf (now (part .entry)) base c i .start ⌝ }
-{
-    start_at(part, base, c.offset + HEADER + i * c.stride)
-}
-
-// The end of record number i of a chunk.
-fn rec_end(part: &[u8], base: usize, c: Chunk, i: usize) -> usize
-    requires { ⌜ Inside (now part) c × (i < c .count) ⌝ }
-    ensures { λ r. ⌜ r ≡ recordOf (now (part .entry)) base c i .end ⌝ }
-{
-    end_at(part, base, c.offset + HEADER + i * c.stride)
-}
-
 // The search of a chunk.
 
-// The last record whose start is at most pc, if the starts rise; the first where none is.
+// The last record whose start is at most pc, if the starts rise; the first where none is. Sums in place of branches, and as
+// many turns for every pc: no branch is guessed wrong.
 fn halve(part: &[u8], base: usize, c: Chunk, pc: usize) -> usize
     requires { ⌜ Inside (now part) c × (0 < c .count) ⌝ }
+    ensures { λ r. ⌜ Stands c (halved (now (part .entry)) base c pc) r ⌝ }
+{
+    let mut at = c.offset + HEADER;
+    let mut width = c.count;
+    let mut most = c.count;
+    while 1 < most {
+        let half = width / 2;
+        let skip = half * c.stride;
+        let up = (start_at(part, base, at + skip) <= pc) as usize;
+        at = at + skip * up;
+        width = half + width % 2 * up;
+        most = most - most / 2;
+    }
+    at
+}
+
+// The left neighbour of the record at offset k ends above its start.
+fn left_meets(part: &[u8], base: usize, c: Chunk, k: usize, start: usize) -> bool
+    requires { ⌜ Inside (now part) c × Stand c k × (start ≡ startAt (now part) base k) ⌝ }
+    ensures { λ r. ⌜ Meets c k (Search.leftMeets (recordOf (now (part .entry)) base c)) r ⌝ }
+{
+    if k == c.offset + HEADER {
+        return false;
+    }
+    start < end_at(part, base, k - c.stride)
+}
+
+// The right neighbour of the record at offset k starts below its end.
+fn right_meets(part: &[u8], base: usize, c: Chunk, k: usize, end: usize) -> bool
+    requires { ⌜ Inside (now part) c × Stand c k × (end ≡ endAt (now part) base k) ⌝ }
+    ensures { λ r. ⌜ Meets c k (Search.rightMeets (recordOf (now (part .entry)) base c) (c .count)) r ⌝ }
+{
+    let next = k + c.stride;
+    if next == c.offset + HEADER + c.count * c.stride {
+        return false;
+    }
+    start_at(part, base, next) < end
+}
+
+// The record at offset k of a chunk, where halving ended, if its neighbours leave it alone and it holds pc.
+fn settle(part: &[u8], base: usize, c: Chunk, pc: usize, k: usize) -> Searched
+    requires { ⌜ Inside (now part) c × Stands c (halved (now part) base c pc) k ⌝ }
     ensures { λ r. ⌜
-        (r ≡ Search.halve (c .count) (recordOf (now (part .entry)) base c) pc 0 (c .count)) × (r < c .count)
+        (searched (now (part .entry)) base c r ≡ Search.search (recordOf (now (part .entry)) base c) (c .count) pc)
+        × HeldIn c r
         ⌝ }
 {
-    let mut lo = 0;
-    let mut hi = c.count;
-    while 1 < hi - lo {
-        let mid = lo + (hi - lo) / 2;
-        if rec_start(part, base, c, mid) <= pc {
-            lo = mid;
-        } else {
-            hi = mid;
-        }
-    }
-    lo
-}
-
-// The left neighbour of record number i ends above its start.
-fn left_meets(part: &[u8], base: usize, c: Chunk, i: usize, start: usize) -> bool
-    requires { ⌜
-        Inside (now part) c × (i < c .count) × (start ≡ recordOf (now part) base c i .start)
-        ⌝ }
-    ensures { λ r. ⌜ r ≡ Search.leftMeets (recordOf (now (part .entry)) base c) i ⌝ }
-{
-    if i == 0 {
-        return false;
-    }
-    start < rec_end(part, base, c, i - 1)
-}
-
-// The right neighbour of record number i starts below its end.
-fn right_meets(part: &[u8], base: usize, c: Chunk, i: usize, end: usize) -> bool
-    requires { ⌜
-        Inside (now part) c × (i < c .count) × (end ≡ recordOf (now part) base c i .end)
-        ⌝ }
-    ensures { λ r. ⌜ r ≡ Search.rightMeets (recordOf (now (part .entry)) base c) (c .count) i ⌝ }
-{
-    if c.count - i <= 1 {
-        return false;
-    }
-    rec_start(part, base, c, i + 1) < end
-}
-
-// Record number i of a chunk, if its neighbours leave it alone and it holds pc.
-fn settle(part: &[u8], base: usize, c: Chunk, pc: usize, i: usize) -> Searched
-    requires { ⌜ Inside (now part) c × (i < c .count) ⌝ }
-    ensures { λ r. ⌜ searched r ≡ Search.settle (recordOf (now (part .entry)) base c) (c .count) pc i ⌝ }
-{
-    let r = rec(part, base, c, i);
-    if left_meets(part, base, c, i, r.start) {
+    let start = start_at(part, base, k);
+    if left_meets(part, base, c, k, start) {
         return Searched::Unsorted;
     }
-    if right_meets(part, base, c, i, r.end) {
+    let end = end_at(part, base, k);
+    if right_meets(part, base, c, k, end) {
         return Searched::Unsorted;
     }
-    if pc < r.start {
+    if pc < start {
         return Searched::NotHeld;
     }
-    if r.end <= pc {
+    if end <= pc {
         return Searched::NotHeld;
     }
-    Searched::Held(r)
-}
-
-// The record of a chunk that holds pc, found by halving on start.
-fn search(part: &[u8], base: usize, c: Chunk, pc: usize) -> Searched
-    requires { ⌜ Inside (now part) c × (0 < c .count) ⌝ }
-    ensures { λ r. ⌜ searched r ≡ Search.search (recordOf (now (part .entry)) base c) (c .count) pc ⌝ }
-{
-    settle(part, base, c, pc, halve(part, base, c, pc))
+    Searched::Held(k)
 }
 
 // What a chunk has for pc: it is searched only if it has records and pc is in [first start, last end).
 fn search_in(part: &[u8], base: usize, c: Chunk, pc: usize) -> Searched
     requires { ⌜ Inside (now part) c ⌝ }
-    ensures { λ r. ⌜ searched r ≡ searchIn (now (part .entry)) base pc c ⌝ }
+    ensures { λ r. ⌜
+        (searched (now (part .entry)) base c r ≡ searchIn (now (part .entry)) base pc c) × HeldIn c r
+        ⌝ }
 {
     if c.count == 0 {
         return Searched::NotHeld;
     }
-    if pc < rec_start(part, base, c, 0) {
+    let first = c.offset + HEADER;
+    if pc < start_at(part, base, first) {
         return Searched::NotHeld;
     }
-    if rec_end(part, base, c, c.count - 1) <= pc {
+    if end_at(part, base, first + (c.count - 1) * c.stride) <= pc {
         return Searched::NotHeld;
     }
-    search(part, base, c, pc)
+    settle(part, base, c, pc, halve(part, base, c, pc))
 }
 
 // Lookup.
@@ -406,51 +399,75 @@ fn bad_record(r: Record) -> bool
     r.program == 0
 }
 
-// The answer that a chunk gives, or the offset of the next one.
-fn try_chunk(part: &[u8], base: usize, pc: usize, c: Chunk) -> Turn
-    requires { ⌜ Inside (now part) c ⌝ }
-    ensures { λ r. ⌜ Tried (now (part .entry)) base pc c r ⌝ }
+// The place of the record at offset k of a chunk, if it passes the test for 18.
+fn place_of(part: &[u8], base: usize, c: Chunk, k: usize) -> Place
+    requires { ⌜ Inside (now part) c × Stand c k × (c ≡ Header.chunkAt (now part) (c .offset)) ⌝ }
+    ensures { λ r. ⌜
+        (placed (now (part .entry)) base r ≡ answerOr c (Answer none) (some (recordIn (now (part .entry)) base c k)))
+        × Lies (now (part .entry)) r
+        ⌝ }
 {
-    match search_in(part, base, c, pc) {
-        Searched::Held(r) => {
-            if bad_record(r) {
-                return Turn::Stop(Lookup::BadEkoRecord);
-            }
-            Turn::Stop(Lookup::Found(r, c))
-        }
-        Searched::NotHeld => Turn::Next(c.offset + c.size),
-        Searched::Unsorted => Turn::Stop(Lookup::EkoUnsorted),
+    if bad_record(rec(part, base, c, k)) {
+        return Place::BadEkoRecord;
     }
+    Place::At(c.offset, k)
 }
 
-// The answer that offset k gives, where 16 bytes remain, or the offset to go on from.
-fn turn_at(part: &[u8], base: usize, pc: usize, arch: u8, k: usize) -> Turn
-    requires { ⌜ k + 16 ≤ length (now part) ⌝ }
-    ensures { λ r. ⌜ Turned (now (part .entry)) base pc arch k r ⌝ }
-{
-    match head_at(part, arch, k) {
-        Head::Padding => Turn::Next(k + 4),
-        Head::Fault => Turn::Stop(Lookup::BadEkoHeader),
-        Head::Here(c) => try_chunk(part, base, pc, c),
-    }
-}
-
-// The record of pc in a part, for chunks of an architecture.
-pub fn lookup_part(part: &[u8], base: usize, pc: usize, arch: u8) -> Lookup
-    ensures { λ r. ⌜ looked r ≡ lookup (now (part .entry)) base pc arch ⌝ }
+// Where the record of pc stands in a part, for chunks of an architecture.
+fn find(part: &[u8], base: usize, pc: usize, arch: u8) -> Place
+    ensures { λ r. ⌜
+        (placed (now (part .entry)) base r ≡ lookup (now (part .entry)) base pc arch) × Lies (now (part .entry)) r
+        ⌝ }
 {
     let mut k = 0;
     while HEADER <= part.len() - k {
-        match turn_at(part, base, pc, arch, k) {
-            Turn::Next(next) => {
-                k = next;
+        match head_at(part, arch, k) {
+            Head::Padding => {
+                k = k + 4;
             }
-            Turn::Stop(answer) => {
-                return answer;
+            Head::Fault => {
+                return Place::BadEkoHeader;
+            }
+            Head::Here(c) => {
+                match search_in(part, base, c, pc) {
+                    Searched::Held(at) => {
+                        return place_of(part, base, c, at);
+                    }
+                    Searched::NotHeld => {
+                        k = k + c.size;
+                    }
+                    Searched::Unsorted => {
+                        return Place::EkoUnsorted;
+                    }
+                }
             }
         }
     }
-    Lookup::None
+    Place::None
+}
+
+// The record and the chunk at a place.
+fn found(part: &[u8], base: usize, place: Place) -> Lookup
+    requires { ⌜ Lies (now part) place ⌝ }
+    ensures { λ r. ⌜ looked r ≡ placed (now (part .entry)) base place ⌝ }
+{
+    match place {
+        Place::At(k, at) => {
+            let c = chunk_at(part, k);
+            Lookup::Found(rec(part, base, c, at), c)
+        }
+        Place::None => Lookup::None,
+        Place::BadEkoHeader => Lookup::BadEkoHeader,
+        Place::BadEkoRecord => Lookup::BadEkoRecord,
+        Place::EkoUnsorted => Lookup::EkoUnsorted,
+    }
+}
+
+// The record of pc in a part, for chunks of an architecture. Small, so that a caller has the record in registers.
+pub fn lookup_part(part: &[u8], base: usize, pc: usize, arch: u8) -> Lookup
+    ensures { λ r. ⌜ looked r ≡ lookup (now (part .entry)) base pc arch ⌝ }
+{
+    found(part, base, find(part, base, pc, arch))
 }
 
 // The record of pc in the section that is lent.
@@ -473,7 +490,7 @@ pub fn lookup_arch(
     if !arch::is_known(arch) {
         return Lookup::BadOpening;
     }
-    lookup_part(section, section_base, pc, arch)
+    found(section, section_base, find(section, section_base, pc, arch))
 }
 
 // The chunk of the record of pc, as a part of the section; where none is found, the empty part at 0.

@@ -21,16 +21,19 @@ returns-2 c =
     arch-unknown _ _ _ _ _ _ (sym (k .before .before .opens .ensures) ∙ not-false _ (k .before .if1 .left))
     (sym (k .is-known .ensures) ∙ not-true _ (c .if2 .taken))
 
-lookup-part-requires : tie.Need-lookup-part-requires
-lookup-part-requires c κs = search needs
+find-requires : tie.Need-find-requires
+find-requires c κs = search needs
+
+found-requires : tie.Need-found-requires
+found-requires c κs = search needs
 
 returns-3 : tie.Need-returns-3
 returns-3 c =
-    let k = c .before .before in
-    c .lookup-part .ensures ∙
+    let k = c .before .before .before in
+    c .found .ensures ∙ c .before .find .ensures .0 ∙
     arch-open _ _ _ _ _ _ (sym (k .before .before .opens .ensures) ∙ not-false _ (k .before .if1 .left))
-    (sym (k .is-known .ensures) ∙ not-false _ (c .before .if2 .left))
+    (sym (k .is-known .ensures) ∙ not-false _ (c .before .before .if2 .left))
 
 pub lookup-arch-spec : {M : Type 1} → statement M
 lookup-arch-spec =
-    tie.close (tie.spec opens-requires returns is-known-requires returns-2 lookup-part-requires returns-3)
+    tie.close (tie.spec opens-requires returns is-known-requires returns-2 find-requires found-requires returns-3)

@@ -2,63 +2,37 @@
 use mathlib.Core.Path.{sym}
 use native.Mathlib.Omega.{arith}
 use borrow.Author.Tests.{eq-eqb, ne-eqb}
-use denote.Ref.{now}
-use Rattle.lookup.specs.Record.{recordOf}
-use Rattle.lookup.proofs.Records.{record-room}
+use Rattle.lookup.proofs.Records.{stand-room}
 use borrow.Author.Needs.{needs}
 use Rattle.lookup.proofs.rec.Statement.{statement}
 use Rattle.lookup.proofs.rec.Tie as tie
-
-add-k : tie.Need-add-k
-add-k c = search needs
-
-mul-k : tie.Need-mul-k
-mul-k c =
-    let s = c .before .before .before in
-    omega (arith, record-room (now (s .args .part)) (s .args .c) (s .args .i) (s .pre .0) (s .pre .1))
-
-add-k-2 : tie.Need-add-k-2
-add-k-2 c =
-    let s = c .before .before .before in
-    omega (arith, record-room (now (s .args .part)) (s .args .c) (s .args .i) (s .pre .0) (s .pre .1))
 
 add-requires : tie.Need-add-requires
 add-requires c κs = search needs
 
 record-at-requires : tie.Need-record-at-requires
 record-at-requires c κs =
-    let s = c .before .before .before .before .before .before in
-    omega (arith, record-room (now (s .args .part)) (s .args .c) (s .args .i) (s .pre .0) (s .pre .1), s .pre .0 .longer (c .if1 .taken))
+    let s = c .before .before .before .before in
+    let room = stand-room _ _ (s .pre .0) _ (s .pre .1) in
+    omega (arith, s .pre .0 .longer (c .if1 .taken))
 
 returns : tie.Need-returns
-unfolding recordOf
-returns c =
-    let s = c .before .before .before .before .before .before .before in
-    simp (eq-eqb _ _ (c .before .if1 .taken)) (rw (sym (c .before .before .before .add .ensures)) (c .record-at .ensures))
+returns c = simp (eq-eqb _ _ (c .before .if1 .taken)) (rw (sym (c .before .before .before .add .ensures)) (c .record-at .ensures))
 
 add-requires-2 : tie.Need-add-requires-2
 add-requires-2 c κs = search needs
 
 record-at2-requires : tie.Need-record-at2-requires
 record-at2-requires c κs =
-    let s = c .before .before .before .before .before .before .before in
-    omega (arith, record-room (now (s .args .part)) (s .args .c) (s .args .i) (s .pre .0) (s .pre .1), s .pre .0 .long)
+    let s = c .before .before .before .before .before in
+    let room = stand-room _ _ (s .pre .0) _ (s .pre .1) in
+    omega (arith, s .pre .0 .long)
 
 returns-2 : tie.Need-returns-2
-unfolding recordOf
 returns-2 c =
     simp (ne-eqb _ _ (c .before .before .if1 .left)) (rw (sym (c .before .before .before .before .add .ensures), sym (c .before .add2 .ensures)) (c .record-at2 .ensures))
 
 pub rec-spec : {M : Type 1} → statement M
 rec-spec =
     tie.close
-    (tie.spec
-    add-k
-    mul-k
-    add-k-2
-    add-requires
-    record-at-requires
-    returns
-    add-requires-2
-    record-at2-requires
-    returns-2)
+    (tie.spec add-requires record-at-requires returns add-requires-2 record-at2-requires returns-2)

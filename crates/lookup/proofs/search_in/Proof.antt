@@ -1,48 +1,95 @@
 -- `lookup::search_in` meets its contract. Assumes nothing.
 use mathlib.Core.Path.{_∙_}
+use native.Mathlib.Omega.{arith}
+use Rattle.lookup.proofs.Records.{stand-room, first-stands, last-stands, stands-start, stands-end}
 use Rattle.lookup.proofs.Gate.{gate-empty, gate-below, gate-above, gate-open, search-shut, search-open}
 use borrow.Author.Needs.{needs}
 use Rattle.lookup.proofs.search_in.Statement.{statement}
 use Rattle.lookup.proofs.search_in.Tie as tie
 
 returns : tie.Need-returns
-returns c = search-shut _ _ _ _ (gate-empty _ _ _ (c .if1 .taken))
+returns c = (search-shut _ _ _ _ (gate-empty _ _ _ (c .if1 .taken)), tt)
 
-rec-start-requires : tie.Need-rec-start-requires
-rec-start-requires c κs = search needs
+add-first : tie.Need-add-first
+add-first c = search needs
+
+start-at-requires : tie.Need-start-at-requires
+start-at-requires c κs =
+    let x = c .before .before .before .before in
+    let first = first-stands (x .args .c) (omega arith) in
+    let room = stand-room _ _ (x .pre) _ (record { index = _; stands = first }) in
+    omega (arith, x .pre .long)
 
 returns-2 : tie.Need-returns-2
-returns-2 c = search-shut _ _ _ _ (gate-below _ _ _ (rw (c .before .rec-start .ensures) at (c .if2 .taken)))
+returns-2 c =
+    let x = c .before .before .before .before .before .before in
+    let first = first-stands (x .args .c) (omega arith) in
+    (search-shut _ _ _ _ (gate-below _ _ _ (rw (c .before .start-at .ensures ∙ stands-start _ _ _ _ _ first) at (c .if2 .taken))), tt)
 
-sub-rec-end : tie.Need-sub-rec-end
-sub-rec-end c = search needs
+sub-end-at : tie.Need-sub-end-at
+sub-end-at c = search needs
 
-rec-end-requires : tie.Need-rec-end-requires
-rec-end-requires c κs = search needs
+mul-end-at : tie.Need-mul-end-at
+mul-end-at c =
+    let x = c .before .before .before .before .before .before .before .before in
+    let last = last-stands (x .args .c) (omega arith) in
+    let room = stand-room _ _ (x .pre) _ (record { index = _; stands = last }) in
+    omega (arith, x .pre .long)
+
+add-end-at : tie.Need-add-end-at
+add-end-at c =
+    let x = c .before .before .before .before .before .before .before .before in
+    let last = last-stands (x .args .c) (omega arith) in
+    let room = stand-room _ _ (x .pre) _ (record { index = _; stands = last }) in
+    omega (arith, x .pre .long)
+
+end-at-requires : tie.Need-end-at-requires
+end-at-requires c κs =
+    let x = c .before .before .before .before .before .before .before .before in
+    let last = last-stands (x .args .c) (omega arith) in
+    let room = stand-room _ _ (x .pre) _ (record { index = _; stands = last }) in
+    omega (arith, x .pre .long)
 
 returns-3 : tie.Need-returns-3
-returns-3 c = search-shut _ _ _ _ (gate-above _ _ _ (rw (c .before .rec-end .ensures) at (c .if3 .taken)))
+returns-3 c =
+    let e = c .before in
+    let x = e .before .before .before .before .before .before .before .before .before in
+    let last = last-stands (x .args .c) (omega arith) in
+    (search-shut _ _ _ _ (gate-above _ _ _ (rw (e .end-at .ensures ∙ stands-end _ _ _ _ _ last) at (c .if3 .taken))), tt)
 
-search-requires : tie.Need-search-requires
-search-requires c κs = search needs
+halve-requires : tie.Need-halve-requires
+halve-requires c κs = search needs
+
+settle-requires : tie.Need-settle-requires
+settle-requires c κs = search needs
 
 returns-4 : tie.Need-returns-4
 returns-4 c =
-    let e = c .before in
-    let above = rw (e .before .rec-end .ensures) at (e .if3 .left) in
-    let n = e .before .before .before in
-    let below = rw (n .before .rec-start .ensures) at (n .if2 .left) in
-    c .search .ensures ∙ search-open _ _ _ _ (gate-open _ _ _ (n .before .before .if1 .left) below above)
+    let above = c .before .before in
+    let below = above .before .before .before .before in
+    let some = below .before .before .before in
+    let x = some .before .before .before in
+    let first = first-stands (x .args .c) (omega arith) in
+    let last = last-stands (x .args .c) (omega arith) in
+    let gate =
+    gate-open _ _ _ (some .if1 .left)
+    (rw (below .before .start-at .ensures ∙ stands-start _ _ _ _ _ first) at (below .if2 .left))
+    (rw (above .before .end-at .ensures ∙ stands-end _ _ _ _ _ last) at (above .if3 .left)) in
+    (c .settle .ensures .0 ∙ search-open _ _ _ _ gate, c .settle .ensures .1)
 
 pub search-in-spec : {M : Type 1} → statement M
 search-in-spec =
     tie.close
     (tie.spec
     returns
-    rec-start-requires
+    add-first
+    start-at-requires
     returns-2
-    sub-rec-end
-    rec-end-requires
+    sub-end-at
+    mul-end-at
+    add-end-at
+    end-at-requires
     returns-3
-    search-requires
+    halve-requires
+    settle-requires
     returns-4)

@@ -1,64 +1,91 @@
 -- `lookup::settle` meets its contract. Assumes nothing.
-use mathlib.Core.Path.{sym, _∙_, ap}
-use Rattle.lookup.specs.declared.Record.{Record}
-use Rattle.lookup.proofs.Records.{holds-below, holds-above, holds-within}
+use mathlib.Core.Path.{refl, sym, _∙_}
+use native.Mathlib.Omega.{arith}
+use Rattle.lookup.proofs.Records.{stand-room, stands-start, stands-end, stands-record, holds-below, holds-above, holds-within}
 use Rattle.lookup.proofs.Neighbours.{settle-left, settle-right, settle-not, settle-held}
+use Rattle.lookup.proofs.Halving.{search-halved}
 use borrow.Author.Needs.{needs}
 use Rattle.lookup.proofs.settle.Statement.{statement}
 use Rattle.lookup.proofs.settle.Tie as tie
 
-rec-requires : tie.Need-rec-requires
-rec-requires c κs = search needs
+start-at-requires : tie.Need-start-at-requires
+start-at-requires c κs =
+    let x = c .before in
+    let room = stand-room _ _ (x .pre .0) _ (record { index = _; stands = x .pre .1 }) in
+    omega (arith, x .pre .0 .long)
 
 left-meets-requires : tie.Need-left-meets-requires
-left-meets-requires c κs = (c .before .before .pre .0, c .before .before .pre .1, ap (λ (r : Record). r .start) (c .rec .ensures))
+left-meets-requires c κs = search needs
 
 returns : tie.Need-returns
-returns c = settle-left _ _ _ _ (sym (c .before .left-meets .ensures) ∙ c .if1 .taken)
+returns c =
+    let l = c .before in
+    let s = l .before .before .before .pre .1 in
+    (settle-left _ _ _ _ (sym (l .left-meets .ensures _ s) ∙ c .if1 .taken) ∙ search-halved _ _ _ _ refl, tt)
+
+end-at-requires : tie.Need-end-at-requires
+end-at-requires c κs =
+    let x = c .before .before .before .before in
+    let room = stand-room _ _ (x .pre .0) _ (record { index = _; stands = x .pre .1 }) in
+    omega (arith, x .pre .0 .long)
 
 right-meets-requires : tie.Need-right-meets-requires
-right-meets-requires c κs =
-    let s = c .before .before .before .before in
-    (s .pre .0, s .pre .1, ap (λ (r : Record). r .end) (c .before .before .rec .ensures))
+right-meets-requires c κs = search needs
 
 returns-2 : tie.Need-returns-2
-returns-2 c = settle-right _ _ _ _ (sym (c .before .right-meets .ensures) ∙ c .if2 .taken)
+returns-2 c =
+    let r = c .before in
+    let s = r .before .before .before .before .before .before .pre .1 in
+    (settle-right _ _ _ _ (sym (r .right-meets .ensures _ s) ∙ c .if2 .taken) ∙ search-halved _ _ _ _ refl, tt)
 
 returns-3 : tie.Need-returns-3
 returns-3 c =
-    let n = c .before .before in
-    let r = n .before .before .before .before .rec .ensures in
-    settle-not _ _ _ _
-    (sym (n .before .before .before .left-meets .ensures) ∙ n .before .before .if1 .left)
-    (sym (n .before .right-meets .ensures) ∙ n .if2 .left)
-    (holds-below _ _ _ r (c .if3 .taken))
+    let r = c .before .before in
+    let n = r .before .before in
+    let s = n .before .before .before .before .pre .1 in (
+      settle-not _ _ _ _
+          (sym (n .before .left-meets .ensures _ s) ∙ n .if1 .left)
+          (sym (r .right-meets .ensures _ s) ∙ c .before .if2 .left)
+          (holds-below _ _ _ (n .before .before .start-at .ensures ∙ stands-start _ _ _ _ _ s) (c .if3 .taken)) ∙
+          search-halved _ _ _ _ refl,
+      tt,
+    )
 
 returns-4 : tie.Need-returns-4
 returns-4 c =
-    let n = c .before .before .before .before in
-    let r = n .before .before .before .before .rec .ensures in
-    settle-not _ _ _ _
-    (sym (n .before .before .before .left-meets .ensures) ∙ n .before .before .if1 .left)
-    (sym (n .before .right-meets .ensures) ∙ n .if2 .left)
-    (holds-above _ _ _ r (c .if4 .taken))
+    let r = c .before .before .before in
+    let n = r .before .before in
+    let s = n .before .before .before .before .pre .1 in (
+      settle-not _ _ _ _
+          (sym (n .before .left-meets .ensures _ s) ∙ n .if1 .left)
+          (sym (r .right-meets .ensures _ s) ∙ c .before .before .if2 .left)
+          (holds-above _ _ _ (r .before .end-at .ensures ∙ stands-end _ _ _ _ _ s) (c .if4 .taken)) ∙
+          search-halved _ _ _ _ refl,
+      tt,
+    )
 
 returns-5 : tie.Need-returns-5
 returns-5 c =
-    let n = c .before .before .before .before in
-    let r = n .before .before .before .before .rec .ensures in
-    settle-held _ _ _ _ _
-    (sym (n .before .before .before .left-meets .ensures) ∙ n .before .before .if1 .left)
-    (sym (n .before .right-meets .ensures) ∙ n .if2 .left)
-    (holds-within _ _ _ r (c .before .before .if3 .left) (c .if4 .left))
-    r
+    let r = c .before .before .before in
+    let n = r .before .before in
+    let s = n .before .before .before .before .pre .1 in (
+      settle-held _ _ _ _ _
+          (sym (n .before .left-meets .ensures _ s) ∙ n .if1 .left)
+          (sym (r .right-meets .ensures _ s) ∙ c .before .before .if2 .left)
+          (holds-within _ _ _ _ (n .before .before .start-at .ensures ∙ stands-start _ _ _ _ _ s) (r .before .end-at .ensures ∙ stands-end _ _ _ _ _ s) (c .before .if3 .left) (c .if4 .left))
+          (stands-record _ _ _ _ _ s) ∙
+          search-halved _ _ _ _ refl,
+      record { index = _; stands = s },
+    )
 
 pub settle-spec : {M : Type 1} → statement M
 settle-spec =
     tie.close
     (tie.spec
-    rec-requires
+    start-at-requires
     left-meets-requires
     returns
+    end-at-requires
     right-meets-requires
     returns-2
     returns-3

@@ -1,6 +1,7 @@
 -- Laws of the row tables, each file named after what it is about.
 pub mod Entries
 pub mod Halving
+pub mod Held
 pub mod Rows2
 pub mod Rising
 pub mod Prefix

@@ -4,3 +4,4 @@ pub mod Handler
 pub mod Handler2
 pub mod Prefix
 pub mod Answers
+pub mod Held

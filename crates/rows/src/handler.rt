@@ -1,10 +1,15 @@
 // Version 1 row tables: ps-unwind's `handler`; its closure `row` is `entry_at`.
 ghost use mathlib.Core.Path.{_≡_};
-ghost use Prim.Native.Nat.{_^_, _<_, _≤_};
+ghost use mathlib.Core.Bool.{true};
+ghost use Prim.Native.Nat.{_+_, _-_, _*_, _^_, _<_, _≤_};
+ghost use lib.ListN.{length};
+ghost use Rattle.failure.specs.Outcome.{Answer};
 ghost use Rattle.mem.specs.Memory.{lent};
+ghost use Rattle.mem.specs.Word.{load};
 ghost use Rattle.rows.specs.Row.{found};
 ghost use Rattle.rows.specs.Handler as Handler;
 ghost use Rattle.rows.specs.Answers.{entry, breaks};
+ghost use Rattle.rows.specs.Held.{alone, Whole, Held, judgedAt, lesser, kept};
 use crate::Row;
 use crate::checked;
 use failure::BAD_OPENING;
@@ -158,7 +163,7 @@ fn judged<'a>(
 }
 
 // The row of a return offset in the table.
-pub fn handler_at<'a>(
+fn handler_anywhere<'a>(
     section: &'a [u8],
     section_base: usize,
     stack: &'a [u8],
@@ -208,7 +213,180 @@ pub fn handler_at<'a>(
     Row::None
 }
 
-// The same in what is lent.
+// A table that lies whole in the section: no read there is refused. What cannot be foretold is computed and not branched on:
+// which half the row is in, and whether it has neighbours.
+
+// A byte as an address-sized number.
+fn wide(x: u8) -> usize
+    ensures { λ r. ⌜ (r ≡ x) × (r < 256) ⌝ }
+{
+    x as usize
+}
+
+// The u32 at an address in the section.
+fn u32_in(section: &[u8], base: usize, a: usize) -> usize
+    requires { ⌜ (base ≤ a) × (a + 4 ≤ base + length (now section)) ⌝ }
+    ensures { λ r. ⌜ (Answer r ≡ load (alone (now (section .entry)) base) 4 a) × (r < 2 ^ 32) ⌝ }
+{
+    let k = a - base;
+    wide(section[k])
+        + 0x100 * wide(section[k + 1])
+        + 0x1_0000 * wide(section[k + 2])
+        + 0x100_0000 * wide(section[k + 3])
+}
+
+// Whether the table at an address lies whole in the section.
+fn is_held(section: &[u8], base: usize, table: usize) -> bool
+    ensures { λ r. ⌜ (r ≡ true → Held (now (section .entry)) base table) ⌝ }
+{
+    if usize::MAX - base < section.len() {
+        return false;
+    }
+    if table < base {
+        return false;
+    }
+    let k = table - base;
+    if section.len() < k {
+        return false;
+    }
+    let rest = section.len() - k;
+    if rest < 4 {
+        return false;
+    }
+    4 + 12 * u32_in(section, base, table) <= rest
+}
+
+// The row before row i, row 0 for itself.
+fn row_before(i: usize) -> usize
+    ensures { λ r. ⌜ r ≡ i - 1 ⌝ }
+{
+    if i == 0 {
+        return 0;
+    }
+    i - 1
+}
+
+// The row after row i, the last row for itself.
+fn row_after(i: usize, count: usize) -> usize
+    requires { ⌜ i < count ⌝ }
+    ensures { λ r. ⌜ r ≡ lesser (i + 1) (count - 1) ⌝ }
+{
+    if i + 1 < count {
+        return i + 1;
+    }
+    i
+}
+
+// Whether the left neighbour is not below the row; row 0 is compared with itself.
+fn left_breaks_in(
+    section: &[u8],
+    base: usize,
+    table: usize,
+    count: usize,
+    i: usize,
+    offset: usize,
+) -> bool
+    requires { ⌜
+        Whole (now section) base table count × (i < count) × (Answer offset ≡ load (alone (now section) base) 4 (table + 4 + 12 * i))
+        ⌝ }
+    ensures { λ r. ⌜ Answer r ≡ Handler.leftBreaks (alone (now (section .entry)) base) table i offset ⌝ }
+{
+    let left = row_before(i);
+    offset < u32_in(section, base, table + 4 + 12 * left) + (i - left)
+}
+
+// Whether the right neighbour is not above the row; the last row is compared with itself.
+fn right_breaks_in(
+    section: &[u8],
+    base: usize,
+    table: usize,
+    count: usize,
+    i: usize,
+    offset: usize,
+) -> bool
+    requires { ⌜
+        Whole (now section) base table count × (i < count) × (Answer offset ≡ load (alone (now section) base) 4 (table + 4 + 12 * i)) × (offset < 2 ^ 32)
+        ⌝ }
+    ensures { λ r. ⌜ Answer r ≡ Handler.rightBreaks (alone (now (section .entry)) base) table count i offset ⌝ }
+{
+    let right = row_after(i, count);
+    u32_in(section, base, table + 4 + 12 * right) < offset + (right - i)
+}
+
+// A row that was found: its neighbours, left first, and then the row itself.
+fn judged_in(
+    section: &[u8],
+    base: usize,
+    table: usize,
+    count: usize,
+    i: usize,
+    offset: usize,
+) -> Row
+    requires { ⌜
+        Whole (now section) base table count × (i < count) × (Answer offset ≡ load (alone (now section) base) 4 (table + 4 + 12 * i)) × (offset < 2 ^ 32)
+        ⌝ }
+    ensures { λ r. ⌜ found r ≡ judgedAt (alone (now (section .entry)) base) table count i ⌝ }
+{
+    if left_breaks_in(section, base, table, count, i, offset) {
+        return Row::Refused(EKO_AMBIGUOUS_CALL_SITE);
+    }
+    if right_breaks_in(section, base, table, count, i, offset) {
+        return Row::Refused(EKO_AMBIGUOUS_CALL_SITE);
+    }
+    let pad = u32_in(section, base, table + 8 + 12 * i);
+    let action = u32_in(section, base, table + 12 + 12 * i);
+    checked(pad, action)
+}
+
+// x where a is below b, else 0.
+fn kept(a: usize, b: usize, x: usize) -> usize
+    ensures { λ r. ⌜ (r ≡ kept a b x) × (r ≤ x) ⌝ }
+{
+    if a < b {
+        return x;
+    }
+    0
+}
+
+// The row of a return offset in the table. The rows left are n from lo on.
+fn handler_in(section: &[u8], base: usize, table: usize, ret: usize) -> Row
+    requires { ⌜ Held (now section) base table ⌝ }
+    ensures { λ r. ⌜ found r ≡ Handler.handler (alone (now (section .entry)) base) table ret ⌝ }
+{
+    let count = u32_in(section, base, table);
+    let mut lo: usize = 0;
+    let mut n = count;
+    while 0 < n {
+        let half = n / 2;
+        let mid = lo + half;
+        let offset = u32_in(section, base, table + 4 + 12 * mid);
+        if offset == ret {
+            return judged_in(section, base, table, count, mid, offset);
+        }
+        lo = lo + kept(offset, ret, half + 1);
+        n = half - kept(offset, ret, 1 - n % 2);
+    }
+    Row::None
+}
+
+// The row of a return offset in the table.
+pub fn handler_at<'a>(
+    section: &'a [u8],
+    section_base: usize,
+    stack: &'a [u8],
+    stack_base: usize,
+    table: usize,
+    ret: usize,
+) -> Row
+    ensures { λ r. ⌜ found r ≡ Handler.handler (lent (now (section .entry)) «section_base» (now (stack .entry)) «stack_base» .regions) table ret ⌝ }
+{
+    if is_held(section, section_base, table) {
+        return handler_in(section, section_base, table, ret);
+    }
+    handler_anywhere(section, section_base, stack, stack_base, table, ret)
+}
+
+// The same in what is lent; without a call of `handler_at`, whose answer would go through memory.
 pub fn handler<'a>(
     section: &'a [u8],
     section_base: usize,
@@ -222,7 +400,10 @@ pub fn handler<'a>(
     if !opening::opens(section, section_base, stack, stack_base) {
         return Row::Refused(BAD_OPENING);
     }
-    handler_at(
+    if is_held(section, section_base, table) {
+        return handler_in(section, section_base, table, ret as usize);
+    }
+    handler_anywhere(
         section,
         section_base,
         stack,

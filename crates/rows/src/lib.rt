@@ -23,10 +23,7 @@ pub enum Row {
 pub fn is_valid(pad: usize, action: usize) -> bool
     ensures { λ r. ⌜ r ≡ Spec.valid pad action ⌝ }
 {
-    if action == ACTION_CLEANUP {
-        return pad != 0;
-    }
-    if action == ACTION_CATCH {
+    if action <= ACTION_CATCH {
         return pad != 0;
     }
     if action == ACTION_TERMINATE {

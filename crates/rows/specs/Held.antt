@@ -1,0 +1,43 @@
+-- A version 1 table that lies whole in the section.
+use mathlib.Core.Path.{_≡_}
+use mathlib.Core.List.{List, [], _∷_}
+use Prim.Native.Nat.{ℕ, _+_, _-_, _*_, _^_, _≤_, _<_}
+use lib.Dec.{ltb}
+use lib.ListN.{length}
+use Rattle.failure.specs.Choice.{if_then_else_}
+use Rattle.failure.specs.Outcome.{Outcome, Answer, _>>=_}
+use Rattle.mem.specs.Memory.{Memory}
+use Rattle.mem.specs.Word.{load}
+use Rattle.rows.specs.Row.{Found}
+use Rattle.rows.specs.Handler.{entryAt, judged}
+
+-- the section alone
+abbrev pub alone : List ℕ → ℕ → Memory
+alone section base = record { base = base; bytes = section } ∷ []
+
+-- a table of so many rows lies whole in the section, which ends at most at 2^64
+pub record Whole (section : List ℕ) (base table count : ℕ) : Type 0 where
+  pub low : base + length section ≤ 2 ^ 64
+  pub above : base ≤ table
+  pub whole : table + 4 + 12 * count ≤ base + length section
+  pub few : count < 2 ^ 32
+
+-- a table lies whole in the section, with as many rows as it says
+pub record Held (section : List ℕ) (base table : ℕ) : Type 0 where
+  pub count : ℕ
+  pub counted : Answer count ≡ load (alone section base) 4 table
+  pub whole : Whole section base table count
+
+-- row i, read and judged
+unfoldable pub judgedAt : Memory → ℕ → ℕ → ℕ → Outcome Found
+judgedAt m table count i = do
+  e ← entryAt m table i
+  judged m table count i e
+
+-- the smaller of two numbers
+abbrev pub lesser : ℕ → ℕ → ℕ
+lesser a b = a - (a - b)
+
+-- x where a is below b, else 0
+abbrev pub kept : ℕ → ℕ → ℕ → ℕ
+kept a b x = if ltb a b then x else 0

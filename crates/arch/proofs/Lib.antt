@@ -3,3 +3,4 @@ pub mod Arch
 pub mod File
 pub mod Known
 pub mod Preserved
+pub mod InPlace

@@ -1,5 +1,6 @@
 -- Document 01's number and values for each case of this crate's answers.
 use mathlib.Core.List.{List}
+use mathlib.Core.Path.{_≡_}
 use Prim.Native.Nat.{ℕ}
 use Rattle.failure.specs.Outcome as Outcome
 use Rattle.failure.specs.Outcome.{Outcome, Answer}
@@ -45,3 +46,18 @@ valued (value.Refused n) = Outcome.Refused n
 abbrev pub next : Regs → Outcome (List ℕ) → Next
 next regs (Outcome.Refused n) = record { status = status.Refused n; regs = regs }
 next regs (Answer file) = record { status = status.Done; regs = record { r = file } }
+
+-- whether a call that changes a register file in place was refused
+abbrev pub statusOf : Outcome (List ℕ) → Status
+statusOf (Outcome.Refused n) = status.Refused n
+statusOf (Answer file) = status.Done
+
+-- the file that it leaves: the next one, or for a refusal the one that came in
+abbrev pub fileAfter : List ℕ → Outcome (List ℕ) → List ℕ
+fileAfter entry (Outcome.Refused n) = entry
+fileAfter entry (Answer file) = file
+
+-- a call on a file in place comes to the outcome: its status and the file that it leaves
+pub record InPlace (entry : List ℕ) (o : Outcome (List ℕ)) (s : Status) (exit : List ℕ) : Type 0 where
+  pub status : s ≡ statusOf o
+  pub file : exit ≡ fileAfter entry o

@@ -13,3 +13,5 @@ pub mod Ra
 pub mod Passes
 pub mod ReadAs
 pub mod SameSlots
+pub mod InStack
+pub mod Columns

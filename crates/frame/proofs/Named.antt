@@ -33,6 +33,11 @@ named-clear m table bit h e = rw (add-one, drop-cons table bit 0 h, ne-eqb (m % 
 pub named-end : (m : ℕ) (table : List ℕ) (bit : ℕ) → length table ≤ bit → named m (drop bit table) ≡ []
 named-end m table bit h = ap (named m) (drop-of-length-le table {i = bit} h)
 
+-- a mask of 0 names none
+pub named-zero : (table : List ℕ) → named 0 table ≡ []
+named-zero [] = refl
+named-zero (reg ∷ table) = named-zero table
+
 -- a bit counts for itself
 count-next :
     (m : ℕ) (table : List ℕ) (bit : ℕ) → bit < length table →

@@ -60,7 +60,7 @@ passing a frame first p = go first refl
 
 -- what a word that does not pass is turned back with, whatever fp and the stack are
 module _ (a : Arch) (frame : ℕ) (first : Bool) (file : List ℕ) where
-  abbrev Turned : Type 0
+  abbrev pub Turned : Type 0
   Turned = (frameCfa a frame first file ≡ Refused BadEkoRecord) ⊎ (frameCfa a frame first file ≡ Refused EkoAsyncFrame)
 
   too-low : (s t : Bool) → (not s || t) ≡ false → (s && not t) ≡ true
@@ -99,7 +99,7 @@ module _ (a : Arch) (frame : ℕ) (first : Bool) (file : List ℕ) where
           inl cc
       go false x false y = inl (rw (past, k, x, y))
 
-  turned : passes a frame first ≡ false → Turned
+  pub turned : passes a frame first ≡ false → Turned
   unfolding passes frameCfa leafCfa
   turned p = go (pastTable a frame) refl first refl (eqb (kind frame) leaf) refl
     where

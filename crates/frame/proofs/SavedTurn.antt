@@ -5,18 +5,17 @@ use mathlib.Core.List.{List, [], _∷_}
 use Prim.Native.Nat.{ℕ, _+_, _-_, _%_, _/_, _≤_, _<_}
 use native.Mathlib.Omega.{arith}
 use lib.ListN as ListN
-use lib.ListN.{length, getD, drop, length-set}
+use lib.ListN.{length, getD, drop}
 use Rattle.failure.specs.Choice.{if_then_else_}
 use Rattle.failure.specs.Outcome.{Outcome, Refused, Answer}
 use Rattle.mem.specs.Memory.{Memory}
 use Rattle.arch.specs.Arch.{Arch}
-use Rattle.arch.specs.File.{columns}
 use Rattle.frame.specs.Layout.{Pair}
 use Rattle.frame.specs.Apply.{restorePairs}
 use Rattle.frame.specs.Frame.{reversed, mask, firstSlot, named, rising, falling, slotOf, savedPairs}
 use Rattle.frame.specs.Answers.{cellOf}
 use Rattle.frame.proofs.Pairs.{restore-set, restore-refused}
-use Rattle.frame.proofs.Named.{named-set, named-clear, named-end}
+use Rattle.frame.proofs.Named.{named-set, named-clear, named-end, named-zero}
 
 -- the registers that are left after k of them, with their slots
 abbrev pub slotsFrom : ℕ → ℕ → List ℕ → List Pair
@@ -43,15 +42,14 @@ pub record SavedTurn (a : Arch) (m : Memory) (at frame n : ℕ) (whole : Outcome
     : Type 0 where
   pub left : whole ≡ restorePairs a m at (slotsFrom frame k (named rest (drop bit (a .saved)))) file
   pub count : k + length (named rest (drop bit (a .saved))) ≡ n
-  pub size : length file ≡ columns
 
 -- at first all are left
 pub saved-begin :
-    (a : Arch) (m : Memory) (at frame n : ℕ) (file : List ℕ) (rest : ℕ) → rest ≡ mask frame → length file ≡ columns →
+    (a : Arch) (m : Memory) (at frame n : ℕ) (file : List ℕ) (rest : ℕ) → rest ≡ mask frame →
     n ≡ length (named (mask frame) (a .saved)) →
     SavedTurn a m at frame n (restorePairs a m at (savedPairs a frame) file) file rest 0 0
 unfolding savedPairs
-saved-begin a m at frame n file rest is l e =
+saved-begin a m at frame n file rest is e =
     let s : firstSlot frame ≡ firstSlot frame + 0 = omega arith in
     record {
       left =
@@ -61,18 +59,21 @@ saved-begin a m at frame n file rest is l e =
           (if reversed frame then falling (firstSlot frame) (named (mask frame) (a .saved)) else rising k (named (mask frame) (a .saved))) file)
           s);
       count = rw is (omega arith);
-      size = l;
     }
 
 module _ (a : Arch) (m : Memory) (at frame n : ℕ) (whole : Outcome (List ℕ)) (file : List ℕ) (rest bit k : ℕ)
     (t : SavedTurn a m at frame n whole file rest bit k) where
+  none : (b : Bool) → reversed frame ≡ b → restorePairs a m at (slotsFrom frame k []) file ≡ Answer file
+  none true e = rw e
+  none false e = rw e
+
   -- no bit is left
   pub saved-over : length (a .saved) ≤ bit → whole ≡ Answer file
   saved-over h = t .left ∙ rw (named-end rest (a .saved) bit h) (none (reversed frame) refl)
-    where
-      none : (b : Bool) → reversed frame ≡ b → restorePairs a m at (slotsFrom frame k []) file ≡ Answer file
-      none true e = rw e
-      none false e = rw e
+
+  -- no bit that is left is set
+  pub saved-none : rest ≡ 0 → whole ≡ Answer file
+  saved-none z = t .left ∙ rw (z, named-zero (drop bit (a .saved))) (none (reversed frame) refl)
 
   module _ (h : bit < length (a .saved)) where
     -- a bit that is not set
@@ -82,7 +83,6 @@ module _ (a : Arch) (m : Memory) (at frame n : ℕ) (whole : Outcome (List ℕ))
         record {
           left = t .left ∙ rw c;
           count = ap (λ (l : List ℕ). k + length l) (sym c) ∙ t .count;
-          size = t .size;
         }
 
     module _ (e : rest % 2 ≡ 1) where
@@ -117,7 +117,6 @@ module _ (a : Arch) (m : Memory) (at frame n : ℕ) (whole : Outcome (List ℕ))
                   restore-set a m at (record { reg = reg; slot = slot })
                   (slotsFrom frame (k + 1) (named (rest / 2) (drop (bit + 1) (a .saved)))) file column v p;
               count = omega (arith, counted);
-              size = simp length-set (t .size);
             }
 
         -- or refused

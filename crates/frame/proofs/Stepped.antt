@@ -14,6 +14,7 @@ use Rattle.frame.specs.Frame.{kind, onFp, savedPairs, fpPair, raSlot}
 use Rattle.frame.specs.Step.{frameCfa, returnAddress, setReturn, setFrame, setCaller, stepAt, step}
 use Rattle.frame.specs.Answers.{cellOf}
 use Rattle.frame.proofs.Pairs.{restore-set, restore-refused}
+use Rattle.frame.proofs.Slot.{cell-at}
 
 -- the return address: from its register, or from its slot
 pub address-register :
@@ -84,6 +85,31 @@ module _ (a : Arch) (m : Memory) (frame at : ℕ) (file : List ℕ) where
       (next : List ℕ) → restorePairs a m at (savedPairs a frame) file ≡ Answer next → setCaller a m frame at file next ≡ stepAt a m frame at file
   unfolding stepAt
   saved-done next e = rw e
+
+-- fp is stored where the frame saves it, or stays
+pub fp-stored :
+    (a : Arch) (m : Memory) (frame at : ℕ) (file : List ℕ) (k : ℕ) → k ≡ kind frame → k ≡ onFp → (column v : ℕ) →
+    Answer column ≡ columnOf a (a .fp) → Answer v ≡ loadSlot m at 2 →
+    restorePairs a m at (fpPair a frame) file ≡ Answer (ListN.set file column v)
+unfolding fpPair
+fp-stored a m frame at file k is e column v known p =
+    rw (eq-eqb (kind frame) onFp (sym is ∙ e))
+    (restore-set a m at (record { reg = a .fp; slot = 2 }) [] file column v (cell-at a m at (a .fp) 2 v column p known))
+
+pub fp-kept :
+    (a : Arch) (m : Memory) (frame at : ℕ) (file : List ℕ) (k : ℕ) → k ≡ kind frame → (k ≡ onFp → ⊥) →
+    restorePairs a m at (fpPair a frame) file ≡ Answer file
+unfolding fpPair
+fp-kept a m frame at file k is e = rw (ne-eqb (kind frame) onFp (λ p. e (is ∙ p)))
+
+-- the parts of a step of which none is refused
+pub step-stored :
+    (a : Arch) (m : Memory) (frame at : ℕ) (file saved framed exit : List ℕ) (ra k : ℕ) →
+    restorePairs a m at (savedPairs a frame) file ≡ Answer saved → Answer ra ≡ returnAddress a m at (raSlot a frame) file →
+    restorePairs a m at (fpPair a frame) saved ≡ Answer framed → Answer k ≡ columnOf a (a .ra) →
+    exit ≡ returned a at ra (ListN.set framed k ra) → stepAt a m frame at file ≡ Answer exit
+unfolding stepAt setCaller setFrame setReturn set
+step-stored a m frame at file saved framed exit ra k s r f c e = rw (s, sym r, f, sym c) (ap Answer (sym e))
 
 module _ (a : Arch) (m : Memory) (frame : ℕ) (first : Bool) (file : List ℕ) where
   -- the word or fp is turned back, or there is a CFA

@@ -6,3 +6,4 @@ pub mod Step
 pub mod ReadAs
 pub mod Public
 pub mod Answers
+pub mod Near

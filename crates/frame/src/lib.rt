@@ -2,23 +2,28 @@
 // `apply` and `step` refuse with 28 first. `apply_state` and `step_frame` are for the crates above, which have tested what is
 // lent, the architecture and the count: there any architecture but 1 stands for 2, and a state has no pair past its arrays.
 ghost use mathlib.Core.Path.{_≡_};
-ghost use mathlib.Core.Bool.{not, _&&_};
-ghost use Prim.Native.Nat.{_≤_, _<_};
+ghost use mathlib.Core.List.{List};
+ghost use mathlib.Core.Bool.{true, not, _&&_};
+ghost use Prim.Native.Nat.{ℕ, _-_, _*_, _≤_, _<_};
 ghost use lib.Dec.{eqb, ltb};
-ghost use lib.ListN.{length};
+ghost use lib.ListN.{length, getD};
 ghost use Rattle.failure.specs.Outcome as Outcome;
 ghost use Rattle.mem.specs.Memory.{lent};
 ghost use Rattle.arch.specs.Arch as Arch;
 ghost use Rattle.arch.specs.File as File;
-ghost use Rattle.arch.specs.Answers.{valued, next};
+ghost use Rattle.arch.specs.Answers.{valued, next, InPlace};
 ghost use Rattle.frame.specs.Layout.{layout, base};
 ghost use Rattle.frame.specs.Apply as Apply;
 ghost use Rattle.frame.specs.Frame as Frame;
 ghost use Rattle.frame.specs.Step as Step;
 ghost use Rattle.frame.specs.Public as Public;
 ghost use Rattle.frame.specs.Answers.{Restores};
+ghost use Rattle.frame.specs.Near.{Near, slotIn, deepest};
+use arch::AARCH64;
+use arch::COLUMNS;
 use arch::Column;
 use arch::Next;
+use arch::PC_COLUMN;
 use arch::Regs;
 use arch::Status;
 use arch::Value;
@@ -41,6 +46,30 @@ pub const KIND_LEAF: u32 = 0;
 pub const KIND_FP: u32 = 1;
 
 pub const KIND_SP: u32 = 2;
+
+// The columns of the registers that the bits of a mask name.
+const COLUMNS_AARCH64: [usize; 18] = [
+    19,
+    20,
+    21,
+    22,
+    23,
+    24,
+    25,
+    26,
+    27,
+    28,
+    32,
+    33,
+    34,
+    35,
+    36,
+    37,
+    38,
+    39,
+];
+
+const COLUMNS_X86_64: [usize; 5] = [3, 12, 13, 14, 15];
 
 // A saved register: its column and its value, or a refusal.
 enum Saved {
@@ -489,16 +518,19 @@ fn sp_cfa(frame: u32, first: bool, sp: usize) -> Value
 }
 
 // The CFA, or what the word or fp is turned back with.
-fn frame_cfa(arch: u8, frame: u32, first: bool, regs: Regs) -> Value
-    ensures { λ r. ⌜ valued r ≡ Step.frameCfa (Arch.numbers arch) frame first (regs .r) ⌝ }
+fn frame_cfa(arch: u8, frame: u32, first: bool, sp: usize, fp: usize) -> Value
+    ensures { λ r. ⌜
+        ((file : List ℕ) → sp ≡ File.sp (Arch.numbers arch) file → fp ≡ File.fp (Arch.numbers arch) file →
+        valued r ≡ Step.frameCfa (Arch.numbers arch) frame first file)
+        ⌝ }
 {
     if past_table(arch, frame) {
         return Value::Refused(BAD_EKO_RECORD);
     }
     match kind(frame) {
-        KIND_LEAF => leaf_cfa(arch, frame, first, base_of(arch, false, regs)),
-        KIND_FP => fp_cfa(frame, first, base_of(arch, true, regs)),
-        KIND_SP => sp_cfa(frame, first, base_of(arch, false, regs)),
+        KIND_LEAF => leaf_cfa(arch, frame, first, sp),
+        KIND_FP => fp_cfa(frame, first, fp),
+        KIND_SP => sp_cfa(frame, first, sp),
         _ => Value::Refused(BAD_EKO_RECORD),
     }
 }
@@ -677,6 +709,359 @@ fn step_at<'a>(
     }
 }
 
+// Slots 1 to depth lie in the stack, and none of their bytes in the section.
+fn near<'a>(
+    section: &'a [u8],
+    section_base: usize,
+    stack: &'a [u8],
+    stack_base: usize,
+    cfa: usize,
+    depth: usize,
+) -> bool
+    requires { ⌜ depth ≤ 65536 ⌝ }
+    ensures { λ r. ⌜
+        (r ≡ true → Near (now (section .entry)) «section_base» (now (stack .entry)) «stack_base» cfa depth)
+        ⌝ }
+{
+    if cfa < stack_base {
+        return false;
+    }
+    let top = cfa - stack_base;
+    if stack.len() < top {
+        return false;
+    }
+    if top < 8 * depth {
+        return false;
+    }
+    if cfa <= section_base {
+        return true;
+    }
+    let low = cfa - 8 * depth;
+    if low < section_base {
+        return false;
+    }
+    section.len() <= low - section_base
+}
+
+// What stands in a slot of the stack.
+fn slot_in(stack: &[u8], top: usize, slot: usize) -> usize
+    requires { ⌜ (0 < slot) × (8 * slot ≤ top) × (top ≤ length (now stack)) ⌝ }
+    ensures { λ r. ⌜ r ≡ slotIn (now (stack .entry)) top slot ⌝ }
+{
+    let k = top - 8 * slot;
+    let e = k + 8;
+    match load::u64_in(&stack[k..e]) {
+        Word::Value(v) => v,
+        Word::Outside => 0,
+    }
+}
+
+// No slot that a word with n saved registers reads is above this one.
+fn deepest(frame: u32, n: usize) -> usize
+    requires { ⌜ n ≤ 18 ⌝ }
+    ensures { λ r. ⌜ (r ≡ deepest frame n) × (r < 4096) ⌝ }
+{
+    let past = first_slot(frame) + n;
+    if past < 3 {
+        return 2;
+    }
+    past - 1
+}
+
+// The column of the register that a bit of the mask names.
+fn saved_column(arch: u8, bit: usize) -> usize
+    requires { ⌜ bit < length (Arch.numbers arch .saved) ⌝ }
+    ensures { λ r. ⌜
+        (Outcome.Answer r ≡ File.columnOf (Arch.numbers arch) (getD (Arch.numbers arch .saved) bit 0)) × (r < File.columns)
+        ⌝ }
+{
+    if arch == AARCH64 {
+        return COLUMNS_AARCH64[bit];
+    }
+    COLUMNS_X86_64[bit]
+}
+
+// The column of the return register.
+fn ra_column(arch: u8) -> usize
+    ensures { λ r. ⌜ (Outcome.Answer r ≡ File.columnOf (Arch.numbers arch) (Arch.numbers arch .ra)) × (r < File.columns) ⌝ }
+{
+    if arch == AARCH64 {
+        return 30;
+    }
+    PC_COLUMN
+}
+
+// The registers that the mask names, read from the stack and stored in place.
+fn restore_near<'a>(
+    section: &'a [u8],
+    section_base: usize,
+    stack: &'a [u8],
+    stack_base: usize,
+    arch: u8,
+    cfa: usize,
+    frame: u32,
+    n: usize,
+    file: &mut [usize; COLUMNS],
+)
+    requires { ⌜
+        Near (now section) «section_base» (now stack) «stack_base» cfa (deepest frame n)
+        × (n ≡ length (Frame.named (Frame.mask frame) (Arch.numbers arch .saved)))
+        × (0 < n → 0 < Frame.firstSlot frame)
+        ⌝ }
+    ensures { λ _. ⌜
+        Apply.restorePairs (Arch.numbers arch)
+        (lent (now (section .entry)) «section_base» (now (stack .entry)) «stack_base» .regions)
+        cfa (Frame.savedPairs (Arch.numbers arch) frame) (now (file .entry))
+        ≡ Outcome.Answer (now (file .exit))
+        ⌝ }
+{
+    let table = arch::saved_count(arch);
+    let top = cfa - stack_base;
+    let mut rest = mask(frame);
+    let mut bit = 0;
+    let mut k = 0;
+    while bit < table {
+        if rest == 0 {
+            return;
+        }
+        let column = saved_column(arch, bit);
+        let named = rest % 2;
+        rest = rest / 2;
+        bit += 1;
+        if named == 1 {
+            let slot = slot_of(frame, n, k);
+            k += 1;
+            file[column] = slot_in(stack, top, slot as usize);
+        }
+    }
+}
+
+// fp where the frame saves it, read from the stack and stored in place.
+fn fp_near<'a>(
+    section: &'a [u8],
+    section_base: usize,
+    stack: &'a [u8],
+    stack_base: usize,
+    arch: u8,
+    cfa: usize,
+    frame: u32,
+    file: &mut [usize; COLUMNS],
+)
+    requires { ⌜ Near (now section) «section_base» (now stack) «stack_base» cfa 2 ⌝ }
+    ensures { λ _. ⌜
+        Apply.restorePairs (Arch.numbers arch)
+        (lent (now (section .entry)) «section_base» (now (stack .entry)) «stack_base» .regions)
+        cfa (Frame.fpPair (Arch.numbers arch) frame) (now (file .entry))
+        ≡ Outcome.Answer (now (file .exit))
+        ⌝ }
+{
+    if kind(frame) != KIND_FP {
+        return;
+    }
+    let k = arch::fp_column(arch);
+    file[k] = slot_in(stack, cfa - stack_base, 2);
+}
+
+// The return address, from the stack or still in its register.
+fn address_near<'a>(
+    section: &'a [u8],
+    section_base: usize,
+    stack: &'a [u8],
+    stack_base: usize,
+    arch: u8,
+    cfa: usize,
+    frame: u32,
+    held: usize,
+) -> usize
+    requires { ⌜ Near (now section) «section_base» (now stack) «stack_base» cfa 2 ⌝ }
+    ensures { λ r. ⌜
+        ((file : List ℕ) → Outcome.Answer held ≡ File.get (Arch.numbers arch) file (Arch.numbers arch .ra) →
+        Outcome.Answer r ≡
+        Step.returnAddress (Arch.numbers arch)
+        (lent (now (section .entry)) «section_base» (now (stack .entry)) «stack_base» .regions)
+        cfa (Frame.raSlot (Arch.numbers arch) frame) file)
+        ⌝ }
+{
+    let slot = ra_slot(arch, frame);
+    if slot == 0 {
+        return held;
+    }
+    slot_in(stack, cfa - stack_base, 1)
+}
+
+// sp is the CFA, pc the stripped return address, in place.
+fn return_to(arch: u8, cfa: usize, ra: usize, file: &mut [usize; COLUMNS])
+    ensures { λ _. ⌜ now (file .exit) ≡ Apply.returned (Arch.numbers arch) cfa ra (now (file .entry)) ⌝ }
+{
+    let k = arch::sp_column(arch);
+    file[k] = cfa;
+    file[PC_COLUMN] = arch::stripped(arch, ra);
+}
+
+// Past the tests, where no slot can be refused: the caller's registers in place.
+fn step_near<'a>(
+    section: &'a [u8],
+    section_base: usize,
+    stack: &'a [u8],
+    stack_base: usize,
+    arch: u8,
+    cfa: usize,
+    frame: u32,
+    n: usize,
+    file: &mut [usize; COLUMNS],
+)
+    requires { ⌜
+        Near (now section) «section_base» (now stack) «stack_base» cfa (deepest frame n)
+        × (n ≡ length (Frame.named (Frame.mask frame) (Arch.numbers arch .saved)))
+        × (0 < n → 0 < Frame.firstSlot frame)
+        ⌝ }
+    ensures { λ _. ⌜
+        Step.stepAt (Arch.numbers arch)
+        (lent (now (section .entry)) «section_base» (now (stack .entry)) «stack_base» .regions)
+        frame cfa (now (file .entry))
+        ≡ Outcome.Answer (now (file .exit))
+        ⌝ }
+{
+    let k = ra_column(arch);
+    let ra = address_near(
+        section,
+        section_base,
+        stack,
+        stack_base,
+        arch,
+        cfa,
+        frame,
+        file[k],
+    );
+    restore_near(
+        section,
+        section_base,
+        stack,
+        stack_base,
+        arch,
+        cfa,
+        frame,
+        n,
+        file,
+    );
+    fp_near(
+        section,
+        section_base,
+        stack,
+        stack_base,
+        arch,
+        cfa,
+        frame,
+        file,
+    );
+    file[k] = ra;
+    return_to(arch, cfa, ra, file);
+}
+
+// Past the tests, anywhere: the caller's registers by value, then in place.
+fn step_plain<'a>(
+    section: &'a [u8],
+    section_base: usize,
+    stack: &'a [u8],
+    stack_base: usize,
+    arch: u8,
+    cfa: usize,
+    frame: u32,
+    file: &mut [usize; COLUMNS],
+) -> Status
+    ensures { λ r. ⌜
+        InPlace (now (file .entry))
+        (Step.stepAt (Arch.numbers arch)
+        (lent (now (section .entry)) «section_base» (now (stack .entry)) «stack_base» .regions)
+        frame cfa (now (file .entry)))
+        r (now (file .exit))
+        ⌝ }
+{
+    let whole = *file;
+    let regs = Regs { r: whole };
+    let next = step_at(
+        section,
+        section_base,
+        stack,
+        stack_base,
+        arch,
+        cfa,
+        frame,
+        regs,
+    );
+    let status = next.status;
+    let after = next.regs;
+    match status {
+        Status::Done => {
+            let r = after.r;
+            *file = r;
+            Status::Done
+        }
+        Status::Refused(n) => Status::Refused(n),
+    }
+}
+
+// The caller's registers from a version 1 frame word, in place, for any architecture number; a refusal leaves the file as it
+// was. First means interrupted.
+pub fn step_into<'a>(
+    section: &'a [u8],
+    section_base: usize,
+    stack: &'a [u8],
+    stack_base: usize,
+    arch: u8,
+    frame: u32,
+    first: bool,
+    file: &mut [usize; COLUMNS],
+) -> Status
+    ensures { λ r. ⌜
+        InPlace (now (file .entry))
+        (Step.step (Arch.numbers arch)
+        (lent (now (section .entry)) «section_base» (now (stack .entry)) «stack_base» .regions)
+        frame first (now (file .entry)))
+        r (now (file .exit))
+        ⌝ }
+{
+    let s = arch::sp_column(arch);
+    let f = arch::fp_column(arch);
+    match frame_cfa(arch, frame, first, file[s], file[f]) {
+        Value::Is(cfa) => {
+            let n = named_count(arch, frame);
+            if near(
+                section,
+                section_base,
+                stack,
+                stack_base,
+                cfa,
+                deepest(frame, n),
+            ) {
+                step_near(
+                    section,
+                    section_base,
+                    stack,
+                    stack_base,
+                    arch,
+                    cfa,
+                    frame,
+                    n,
+                    file,
+                );
+                return Status::Done;
+            }
+            step_plain(
+                section,
+                section_base,
+                stack,
+                stack_base,
+                arch,
+                cfa,
+                frame,
+                file,
+            )
+        }
+        Value::Refused(n) => Status::Refused(n),
+    }
+}
+
 // The caller's registers from a version 1 frame word, for any architecture number. First means interrupted.
 pub fn step_frame<'a>(
     section: &'a [u8],
@@ -695,19 +1080,18 @@ pub fn step_frame<'a>(
         frame first (regs .r))
         ⌝ }
 {
-    match frame_cfa(arch, frame, first, regs) {
-        Value::Is(cfa) => step_at(
-            section,
-            section_base,
-            stack,
-            stack_base,
-            arch,
-            cfa,
-            frame,
-            regs,
-        ),
-        Value::Refused(n) => refused(n, regs),
-    }
+    let mut file = regs;
+    let status = step_into(
+        section,
+        section_base,
+        stack,
+        stack_base,
+        arch,
+        frame,
+        first,
+        &mut file.r,
+    );
+    Next { status, regs: file }
 }
 
 // step: the caller's registers from a version 1 frame word. First means interrupted.

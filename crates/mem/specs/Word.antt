@@ -2,6 +2,9 @@
 use mathlib.Core.List.{List, [], _∷_}
 use mathlib.Core.Path.{_≡_}
 use Prim.Native.Nat.{ℕ, _+_, _*_, _^_, _<_}
+use lib.Dec.{eqb}
+use lib.ListN.{length}
+use Rattle.failure.specs.Choice.{if_then_else_}
 use Rattle.failure.specs.Outcome.{Outcome, Refused, Answer, _>>=_}
 use Rattle.failure.specs.Failure.{OutsideMemory}
 use Rattle.mem.specs.Memory.{Memory}
@@ -20,6 +23,10 @@ unfoldable pub load : Memory → ℕ → ℕ → Outcome ℕ
 load m n a = do
   bs ← bytesAt m a n
   Answer (littleEndian bs)
+
+-- the number in n bytes; 27 for any other count of them
+unfoldable pub wordIn : ℕ → List ℕ → Outcome ℕ
+wordIn n bs = if eqb (length bs) n then Answer (littleEndian bs) else Refused OutsideMemory
 
 -- the signed number in the 4 bytes at address a, modulo 2^64, or 27
 unfoldable pub loadSigned : Memory → ℕ → Outcome ℕ

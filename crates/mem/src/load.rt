@@ -5,7 +5,7 @@ ghost use lib.ListN.{length};
 ghost use Rattle.mem.specs.Memory.{lent};
 ghost use Rattle.mem.specs.Place.{holds, placed, placeOf};
 ghost use Rattle.mem.specs.Part.{PartOf};
-ghost use Rattle.mem.specs.Word.{littleEndian, loaded, loadSigned, Loaded};
+ghost use Rattle.mem.specs.Word.{littleEndian, loaded, wordIn, loadSigned, Loaded};
 use crate::wrapping;
 
 // Where bytes stand: an offset in the section or in the stack.
@@ -129,6 +129,16 @@ fn le8(b: &[u8]) -> usize
         + 0x100_0000_0000 * wide(b[5])
         + 0x1_0000_0000_0000 * wide(b[6])
         + 0x100_0000_0000_0000 * wide(b[7])
+}
+
+// The u64 in eight bytes; 27 for any other count of them.
+pub fn u64_in(b: &[u8]) -> Word
+    ensures { λ r. ⌜ loaded r ≡ wordIn 8 (now (b .entry)) ⌝ }
+{
+    if b.len() == 8 {
+        return Word::Value(le8(b));
+    }
+    Word::Outside
 }
 
 // The u8 at address a.

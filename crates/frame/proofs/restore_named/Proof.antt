@@ -33,7 +33,7 @@ mask-requires : tie.Need-mask-requires Inv-loop μ-loop
 mask-requires c κs = search needs
 
 loop-holds : tie.Need-loop-holds Inv-loop μ-loop
-loop-holds c = saved-begin _ _ _ _ _ _ _ (c .mask .ensures) (search needs) (c .before .named-count .ensures)
+loop-holds c = saved-begin _ _ _ _ _ _ _ (c .mask .ensures) (c .before .named-count .ensures)
 
 saved-requires : tie.Need-saved-requires Inv-loop μ-loop
 saved-requires c κs = search needs

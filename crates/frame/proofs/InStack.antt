@@ -1,0 +1,161 @@
+-- Laws of `Near`, `slotIn` and `deepest`. Assumes nothing.
+use mathlib.Core.Path.{_≡_, refl, sym, _∙_, ap}
+use mathlib.Core.Bool.{Bool, true, false, not, _&&_, and-false}
+use mathlib.Core.List.{List}
+use mathlib.Core.Logic.{⊎-elim, _⊎_, inl, inr}
+use Prim.Native.Nat.{ℕ, _+_, _-_, _*_, _^_, _%_, _≤_, _<_}
+use native.Mathlib.Omega.{arith}
+use lib.Dec.{eqb, leb, ltb, lit<}
+use lib.ListN.{length, take, drop, length-take, length-drop}
+use borrow.Author.Tests.{le-leb, lt-leb, lt-ltb, le-ltb, eq-eqb, eqb-true, ltb-true, ltb-false}
+use Rattle.failure.specs.Outcome.{Outcome, Refused, Answer}
+use Rattle.failure.specs.Failure.{OutsideMemory, BadEkoRecord, EkoAsyncFrame}
+use Rattle.mem.specs.Memory.{lent}
+use Rattle.arch.specs.Arch.{Arch}
+use Rattle.mem.specs.Place.{holds, bytesAt}
+use Rattle.mem.specs.Word.{littleEndian, load, loaded, wordIn}
+use Rattle.mem.specs.Wrapping.{difference}
+use Rattle.mem.specs.declared.load.Word.{Word}
+use Rattle.mem.specs.declared.load.Word.the-variants.{Value, Outside}
+use Rattle.mem.proofs.Place.{holds-when}
+use Rattle.mem.proofs.Tests.{lt-or-le}
+use Rattle.frame.specs.Apply.{loadSlot}
+use Rattle.frame.specs.Frame.{kind, onFp, mask, param, named, firstSlot, reversed, slotOf}
+use Rattle.frame.specs.Step.{frameCfa}
+use Rattle.frame.specs.ReadAs.{passes}
+use Rattle.frame.proofs.Named.{named-zero}
+use Rattle.frame.proofs.Passes.{Passing, leaf-word, fp-word, sp-word, passing, Turned, turned}
+use Rattle.frame.specs.Near.{Near, slotIn, deepest}
+
+-- a read of eight bytes of the stack
+pub part-read :
+    (stack : List ℕ) (k e : ℕ) (w : Word) → loaded w ≡ wordIn 8 (take (e - k) (drop k stack)) → e ≡ k + 8 → e ≤ length stack →
+    loaded w ≡ Answer (littleEndian (take 8 (drop k stack)))
+unfolding wordIn
+part-read stack k e w p is fits =
+    let n : e - k ≡ 8 = omega arith in
+    let l : length (take 8 (drop k stack)) ≡ 8 = simp (length-take, length-drop) (omega arith) in
+    p ∙ rw (n, eq-eqb (length (take 8 (drop k stack))) 8 l)
+
+-- what is read is a value, and the value of the bytes
+pub read-value : (w : Word) (v x : ℕ) → loaded w ≡ Answer x → w ≡ Value v → v ≡ x
+read-value w v x e is = let p : Answer v ≡ Answer x = sym (ap loaded is) ∙ e in cc
+
+pub read-outside : (w : Word) (x y : ℕ) → loaded w ≡ Answer x → w ≡ Outside → y ≡ x
+read-outside w x y e is =
+    let p : _≡_ {A = Outcome ℕ} (Refused OutsideMemory) (Answer x) = sym (ap loaded is) ∙ e in
+    let z : _≡_ {A = ℕ} 0 1 = cc in
+    absurd (omega arith)
+
+-- a range of addresses does not hold bytes at or past its end
+past-end : (base size a : ℕ) → base + size ≤ a → holds base size a 8 ≡ false
+unfolding holds
+past-end base size a h = simp (lt-leb (a + 8) (base + size) (omega arith), and-false)
+
+-- nor bytes before its start
+before-start : (base size a : ℕ) → a < base → holds base size a 8 ≡ false
+unfolding holds
+before-start base size a h = simp (lt-leb base a h)
+
+module _ (section : List ℕ) (sectionBase : ℕ) (stack : List ℕ) (stackBase at depth : ℕ)
+    (near : Near section sectionBase stack stackBase at depth) where
+  -- fewer slots are near too
+  pub near-less : (d : ℕ) → d ≤ depth → Near section sectionBase stack stackBase at d
+  near-less d h =
+      record {
+        low = omega (arith, near .low);
+        high = near .high;
+        apart = ⊎-elim (λ (e : sectionBase + length section + 8 * depth ≤ at). inl (omega arith)) (λ (e : at ≤ sectionBase). inr e) (near .apart);
+      }
+
+  module _ (slot : ℕ) (some : 0 < slot) (few : slot ≤ depth) (fits : at < 2 ^ 64) where
+    -- the address of a slot
+    address : difference at (8 * slot) ≡ at - 8 * slot
+    address = omega (arith, near .low)
+
+    not-section : holds sectionBase (length section) (at - 8 * slot) 8 ≡ false
+    not-section =
+        ⊎-elim
+        (λ (e : sectionBase + length section + 8 * depth ≤ at). past-end sectionBase (length section) (at - 8 * slot) (omega arith))
+        (λ (e : at ≤ sectionBase). before-start sectionBase (length section) (at - 8 * slot) (omega (arith, near .low)))
+        (near .apart)
+
+    in-stack : holds stackBase (length stack) (at - 8 * slot) 8 ≡ true
+    in-stack = holds-when stackBase (length stack) (at - 8 * slot) 8 (omega (arith, near .low)) (omega (arith, near .low, near .high))
+
+    -- a slot that is near is read from the stack
+    pub near-loads :
+        (v : ℕ) → v ≡ slotIn stack (at - stackBase) slot →
+        Answer v ≡ loadSlot (lent section sectionBase stack stackBase .regions) at slot
+    unfolding loadSlot load bytesAt
+    near-loads v is =
+        let k : at - stackBase - 8 * slot ≡ at - 8 * slot - stackBase = omega (arith, near .low) in
+        rw (address, not-section, in-stack) (ap Answer (is ∙ ap (λ (i : ℕ). littleEndian (take 8 (drop i stack))) k))
+
+-- the deepest slot, by the first slot
+pub deepest-low : (frame n first : ℕ) → first ≡ firstSlot frame → first + n < 3 → 2 ≡ deepest frame n
+unfolding deepest
+deepest-low frame n first is h = rw (lt-ltb (firstSlot frame + n) 3 (omega arith))
+
+pub deepest-high : (frame n first : ℕ) → first ≡ firstSlot frame → 3 ≤ first + n → first + n - 1 ≡ deepest frame n
+unfolding deepest
+deepest-high frame n first is h = rw (le-ltb (firstSlot frame + n) 3 (omega arith)) (ap (λ (k : ℕ). k + n - 1) is)
+
+-- the deepest slot is at least 2 and at least that of every saved register
+pub deepest-bounds : (frame n : ℕ) → (2 ≤ deepest frame n) × (firstSlot frame + n ≤ deepest frame n + 1)
+unfolding deepest
+deepest-bounds frame n = go (ltb (firstSlot frame + n) 3) refl
+  where
+    go : (t : Bool) → ltb (firstSlot frame + n) 3 ≡ t → (2 ≤ deepest frame n) × (firstSlot frame + n ≤ deepest frame n + 1)
+    go true e = let h = ltb-true (firstSlot frame + n) 3 e in rw e (omega arith, omega arith)
+    go false e = let h = ltb-false (firstSlot frame + n) 3 e in rw e (omega arith, omega arith)
+
+-- a word that has a CFA saves no register in slot 0
+pub first-some :
+    (a : Arch) (frame : ℕ) (first : Bool) (file : List ℕ) (at n : ℕ) → Answer at ≡ frameCfa a frame first file →
+    n ≡ length (named (mask frame) (a .saved)) → 0 < n → 0 < firstSlot frame
+first-some a frame first file at n e is some = go (passes a frame first) refl
+  where
+    refused : (x : ℕ) → frameCfa a frame first file ≡ Refused x → 0 < firstSlot frame
+    refused x p =
+        let q : _≡_ {A = Outcome ℕ} (Answer at) (Refused x) = e ∙ p in
+        let z : _≡_ {A = ℕ} 0 1 = cc in
+        absurd (omega arith)
+
+    masked : mask frame ≡ 0 → 0 < firstSlot frame
+    masked z =
+        let l : n ≡ 0 = is ∙ rw (z, named-zero (a .saved)) in
+        absurd (omega arith)
+
+    high : (t s : Bool) → ltb (param frame) 3 ≡ t → eqb (mask frame) 0 ≡ s → (t && not s) ≡ false → kind frame ≡ onFp → 0 < firstSlot frame
+    high true true l z p k = masked (eqb-true (mask frame) 0 z)
+    high true false l z p k = let q : _≡_ {A = ℕ} 0 1 = cc in absurd (omega arith)
+    high false s l z p k = let h = ltb-false (param frame) 3 l in rw k (omega arith)
+
+    passed : Passing a frame first → 0 < firstSlot frame
+    passed (leaf-word past f k z) = masked z
+    passed (fp-word past f k low) = high (ltb (param frame) 3) (eqb (mask frame) 0) refl refl low k
+    passed (sp-word past f k) = rw k (lit< tt)
+
+    turnedBack : Turned a frame first file → 0 < firstSlot frame
+    turnedBack (inl p) = refused BadEkoRecord p
+    turnedBack (inr p) = refused EkoAsyncFrame p
+
+    go : (t : Bool) → passes a frame first ≡ t → 0 < firstSlot frame
+    go true p = passed (passing a frame first p)
+    go false p = turnedBack (turned a frame first file p)
+
+-- the slot of a saved register is near
+pub slot-bounds :
+    (frame n k : ℕ) → k < n → (0 < n → 0 < firstSlot frame) → (0 < slotOf frame n k) × (slotOf frame n k ≤ deepest frame n)
+slot-bounds frame n k h some = go (reversed frame) refl
+  where
+    go : (t : Bool) → reversed frame ≡ t → (0 < slotOf frame n k) × (slotOf frame n k ≤ deepest frame n)
+    go true e =
+        let first = some (omega arith) in
+        let deep = deepest-bounds frame n in
+        rw e (omega arith, omega (arith, deep .1))
+    go false e =
+        let first = some (omega arith) in
+        let deep = deepest-bounds frame n in
+        rw e (omega arith, omega (arith, deep .1))

@@ -1,4 +1,4 @@
--- Laws of `frameRegs`. Assumes nothing.
+-- Laws of `followedBy`, `follow` and `frameRegs`. Assumes nothing.
 use mathlib.Core.Path.{_≡_, sym, _∙_, ap}
 use Prim.Native.Nat.{ℕ}
 use Rattle.failure.specs.Outcome.{Outcome, Refused, Answer}
@@ -8,7 +8,23 @@ use Rattle.arch.specs.declared.Arch2.{Arch2}
 use Rattle.state.specs.declared.State.{State}
 use Rattle.state.specs.Save.{save}
 use Rattle.state.specs.Answers.{changed}
-use Rattle.program.specs.Rule.{frameRegs}
+use Rattle.program.specs.declared.decode.Rule.{Rule}
+use Rattle.program.specs.declared.Status.{Status}
+use Rattle.program.specs.declared.Status.the-variants as status
+use Rattle.program.specs.Rule.{frameRegs, follow}
+use Rattle.program.specs.Answers.{followedBy}
+
+-- what a status says of the answer
+module _ (s : Status) (st : State) (o : Outcome State) where
+  pub followed-done : s ≡ status.Done → followedBy s st ≡ o → Answer st ≡ o
+  followed-done e p = sym (ap (λ (x : Status). followedBy x st) e) ∙ p
+
+  pub followed-refused : (n : ℕ) → s ≡ status.Refused n → followedBy s st ≡ o → Refused n ≡ o
+  followed-refused n e p = sym (ap (λ (x : Status). followedBy x st) e) ∙ p
+
+-- the rule that was found is the one that was given
+pub follow-found : (a : Arch) (st : State) (r found : Rule) (o : Outcome State) → r ≡ found → o ≡ follow a found st → o ≡ follow a r st
+follow-found a st r found o e p = p ∙ sym (ap (λ (x : Rule). follow a x st) e)
 
 -- the two saves, over the numbers of an architecture as the code holds them
 module _ (a : Arch) (r : Arch2) (e : r ≡ inCode a) (st : State) where

@@ -1,8 +1,11 @@
 -- Document 01's number and values for each case of this crate's answers.
+use mathlib.Core.List.{List}
+use Prim.Native.Nat.{ℕ}
 use Rattle.failure.specs.Outcome as Outcome
 use Rattle.failure.specs.Outcome.{Outcome, Answer}
 use Rattle.leb.specs.Reader.{Read}
 use Rattle.state.specs.declared.State.{State}
+use Rattle.state.specs.State.{stateOf}
 use Rattle.program.specs.declared.decode.Number.{Number}
 use Rattle.program.specs.declared.decode.Number.the-variants as number
 use Rattle.program.specs.declared.decode.Decoded.{Decoded}
@@ -29,8 +32,9 @@ abbrev pub followedBy : Status → State → Outcome State
 followedBy status.Done st = Answer st
 followedBy (status.Refused n) st = Outcome.Refused n
 
-abbrev pub followed : Followed → Outcome State
-followed f = followedBy (f .status) (f .state)
+-- whose pairs are in place
+abbrev pub followed : Followed → List ℕ → List ℕ → Outcome State
+followed f regs slots = followedBy (f .status) (stateOf (f .fp) (f .units) (f .count) regs slots)
 
 -- a run as the code hands it back: for a refusal the entry state, and after-address 0
 abbrev pub ended : State → Outcome Ran → Ended

@@ -2,10 +2,15 @@
 // `run` refuses with 28 first. `run_program` is for the crates above, which have tested what is lent and the architecture:
 // any architecture but 1 stands for 2 there.
 ghost use mathlib.Core.Path.{_≡_};
+ghost use mathlib.Core.List.{List};
+ghost use Prim.Native.Nat.{ℕ};
+ghost use Rattle.failure.specs.Outcome.{Answer};
 ghost use Rattle.mem.specs.Memory.{lent};
 ghost use Rattle.arch.specs.Arch.{numbers};
-ghost use Rattle.state.specs.State.{entry};
-ghost use Rattle.state.specs.Answers.{told};
+ghost use Rattle.state.specs.State.{stateOf, entry};
+ghost use Rattle.state.specs.Save as Save;
+ghost use Rattle.state.specs.Restore as Restore;
+ghost use Rattle.state.specs.Answers.{changed, nextIn, told};
 ghost use Rattle.program.specs.Rule as Rules;
 ghost use Rattle.program.specs.Run as Run;
 ghost use Rattle.program.specs.Public as Public;
@@ -20,9 +25,12 @@ use failure::BAD_EKO_RECORD;
 use failure::BAD_OPENING;
 use failure::REMEMBER_STACK_OVERFLOW;
 use mem::opening;
-use state::Next;
+use state::Counted;
+use state::MAX_SAVED;
 use state::State;
 use state::at_entry;
+use state::drop_in;
+use state::save_in;
 
 pub mod decode;
 
@@ -35,10 +43,12 @@ pub enum Status {
     Refused(u32),
 }
 
-// A state after an operation; beside a refusal nothing is said of it.
+// The base, units and count of a state after an operation, whose pairs are in place; beside a refusal nothing is said of them.
 struct Followed {
     status: Status,
-    state: State,
+    fp: bool,
+    units: u32,
+    count: usize,
 }
 
 // What a run gives: the state at the offset and, if END was read, the address after it, else 0. For a refusal they are the
@@ -49,83 +59,194 @@ pub struct Ended {
     pub after: usize,
 }
 
-// A change of a state as document 01 answers it.
-fn folded(n: Next) -> Followed
-    ensures { λ r. ⌜ followed r ≡ told n ⌝ }
+// A change of pairs as document 01 answers it.
+fn folded(c: Counted, fp: bool, units: u32) -> Followed
+    ensures { λ r. ⌜ ((regs slots : List ℕ) → followed r regs slots ≡ told (nextIn fp units c regs slots)) ⌝ }
 {
-    let st = n.state;
-    let status = n.status;
+    let count = c.count;
+    let status = c.status;
     match status {
         state::Status::Done => Followed {
             status: Status::Done,
-            state: st,
+            fp,
+            units,
+            count,
         },
         state::Status::OutOfRange => Followed {
             status: Status::Refused(BAD_EKO_RECORD),
-            state: st,
+            fp,
+            units,
+            count,
         },
         state::Status::Full => Followed {
             status: Status::Refused(BAD_EKO_RECORD),
-            state: st,
+            fp,
+            units,
+            count,
         },
         state::Status::BadOpening => Followed {
             status: Status::Refused(BAD_OPENING),
-            state: st,
+            fp,
+            units,
+            count,
         },
     }
+}
+
+// A register saved in a slot.
+fn save<'a, 'b>(
+    regs: &'a mut [u16; 32],
+    slots: &'b mut [u16; 32],
+    count: usize,
+    fp: bool,
+    units: u32,
+    reg: usize,
+    slot: usize,
+) -> Followed
+    ensures { λ r. ⌜
+        followed r (now (regs .exit)) (now (slots .exit)) ≡
+        changed (Save.save (stateOf fp units count (now (regs .entry)) (now (slots .entry))) reg slot)
+        ⌝ }
+{
+    folded(save_in(regs, slots, count, reg, slot), fp, units)
+}
+
+// A register back to its entry rule.
+fn restore<'a, 'b>(
+    regs: &'a mut [u16; 32],
+    slots: &'b mut [u16; 32],
+    count: usize,
+    fp: bool,
+    units: u32,
+    arch: u8,
+    reg: usize,
+) -> Followed
+    ensures { λ r. ⌜
+        followed r (now (regs .exit)) (now (slots .exit)) ≡
+        changed (Restore.restore (numbers arch) (stateOf fp units count (now (regs .entry)) (now (slots .entry))) reg)
+        ⌝ }
+{
+    let a = numbers(arch);
+    if MAX_SAVED < count {
+        return Followed {
+            status: Status::Refused(BAD_OPENING),
+            fp,
+            units,
+            count,
+        };
+    }
+    let left = drop_in(regs, slots, count, reg);
+    if reg != a.ra as usize {
+        return Followed {
+            status: Status::Done,
+            fp,
+            units,
+            count: left,
+        };
+    }
+    if a.entry_ra_slot == 0 {
+        return Followed {
+            status: Status::Done,
+            fp,
+            units,
+            count: left,
+        };
+    }
+    save(regs, slots, left, fp, units, reg, a.entry_ra_slot as usize)
 }
 
 // fp saved at 2, then the return register at 1.
-fn frame_regs(st: State, arch: u8) -> Followed
-    ensures { λ r. ⌜ followed r ≡ Rules.frameRegs (numbers arch) st ⌝ }
+fn frame_regs<'a, 'b>(
+    regs: &'a mut [u16; 32],
+    slots: &'b mut [u16; 32],
+    count: usize,
+    fp: bool,
+    units: u32,
+    arch: u8,
+) -> Followed
+    ensures { λ r. ⌜
+        followed r (now (regs .exit)) (now (slots .exit)) ≡
+        Rules.frameRegs (numbers arch) (stateOf fp units count (now (regs .entry)) (now (slots .entry)))
+        ⌝ }
 {
     let a = numbers(arch);
-    let first = folded(st.save(a.fp as usize, 2));
-    let next = first.state;
+    let first = save(regs, slots, count, fp, units, a.fp as usize, 2);
     let status = first.status;
     match status {
-        Status::Done => folded(next.save(a.ra as usize, 1)),
+        Status::Done => save(
+            regs,
+            slots,
+            first.count,
+            first.fp,
+            first.units,
+            a.ra as usize,
+            1,
+        ),
         Status::Refused(n) => Followed {
             status: Status::Refused(n),
-            state: next,
+            fp,
+            units,
+            count,
         },
     }
 }
 
-// The state with another base and units.
-fn with_cfa(mut st: State, fp: bool, units: u32) -> State
-    ensures { λ r. ⌜ r ≡ Rules.withCfa fp units st ⌝ }
+// The entry state.
+fn enter<'a, 'b>(regs: &'a mut [u16; 32], slots: &'b mut [u16; 32], arch: u8) -> Followed
+    ensures { λ r. ⌜ followed r (now (regs .exit)) (now (slots .exit)) ≡ Answer (entry (numbers arch)) ⌝ }
 {
-    st.cfa_fp = fp;
-    st.cfa_units = units;
-    st
+    let first = at_entry(arch);
+    let first_regs = first.regs;
+    let first_slots = first.slots;
+    *regs = first_regs;
+    *slots = first_slots;
+    Followed {
+        status: Status::Done,
+        fp: first.cfa_fp,
+        units: first.cfa_units,
+        count: first.count,
+    }
 }
 
 // A state after an operation that sets its rules.
-fn follow(st: State, arch: u8, rule: Rule) -> Followed
-    ensures { λ r. ⌜ followed r ≡ Rules.follow (numbers arch) rule st ⌝ }
+fn follow<'a, 'b>(
+    regs: &'a mut [u16; 32],
+    slots: &'b mut [u16; 32],
+    count: usize,
+    fp: bool,
+    units: u32,
+    arch: u8,
+    rule: Rule,
+) -> Followed
+    ensures { λ r. ⌜
+        followed r (now (regs .exit)) (now (slots .exit)) ≡
+        Rules.follow (numbers arch) rule (stateOf fp units count (now (regs .entry)) (now (slots .entry)))
+        ⌝ }
 {
     match rule {
         Rule::Units(n) => Followed {
             status: Status::Done,
-            state: with_cfa(st, st.cfa_fp, n),
+            fp,
+            units: n,
+            count,
         },
-        Rule::Save(reg, slot) => folded(st.save(reg as usize, slot as usize)),
+        Rule::Save(reg, slot) => save(regs, slots, count, fp, units, reg as usize, slot as usize),
         Rule::Sp(n) => Followed {
             status: Status::Done,
-            state: with_cfa(st, false, n),
+            fp: false,
+            units: n,
+            count,
         },
         Rule::Fp(n) => Followed {
             status: Status::Done,
-            state: with_cfa(st, true, n),
+            fp: true,
+            units: n,
+            count,
         },
-        Rule::Restore(reg) => folded(st.restore_by(arch, reg as usize)),
-        Rule::Entry => Followed {
-            status: Status::Done,
-            state: at_entry(arch),
-        },
-        Rule::Frame => frame_regs(with_cfa(st, true, 2), arch),
-        Rule::FrameRegs => frame_regs(st, arch),
+        Rule::Restore(reg) => restore(regs, slots, count, fp, units, arch, reg as usize),
+        Rule::Entry => enter(regs, slots, arch),
+        Rule::Frame => frame_regs(regs, slots, count, true, 2, arch),
+        Rule::FrameRegs => frame_regs(regs, slots, count, fp, units, arch),
     }
 }
 
@@ -156,7 +277,11 @@ pub fn run_program<'a>(
     }
     let a = numbers(arch);
     let unit = a.unit;
-    let mut st = entry;
+    let mut fp = entry.cfa_fp;
+    let mut units = entry.cfa_units;
+    let mut count = entry.count;
+    let mut regs = entry.regs;
+    let mut slots = entry.slots;
     let mut remembered = [entry; 4];
     let mut depth: usize = 0;
     let mut at: usize = 0;
@@ -168,7 +293,13 @@ pub fn run_program<'a>(
                 match op {
                     Op::End => break 'ops Ended {
                         status: Status::Done,
-                        state: st,
+                        state: State {
+                            cfa_fp: fp,
+                            cfa_units: units,
+                            count,
+                            regs,
+                            slots,
+                        },
                         after: next,
                     },
                     Op::Advance(n) => {
@@ -183,17 +314,27 @@ pub fn run_program<'a>(
                         if off < at + by {
                             break 'ops Ended {
                                 status: Status::Done,
-                                state: st,
+                                state: State {
+                                    cfa_fp: fp,
+                                    cfa_units: units,
+                                    count,
+                                    regs,
+                                    slots,
+                                },
                                 after: 0,
                             };
                         }
                         at += by;
                     }
                     Op::Set(rule) => {
-                        let followed = follow(st, arch, rule);
+                        let followed = follow(&mut regs, &mut slots, count, fp, units, arch, rule);
                         let status = followed.status;
                         match status {
-                            Status::Done => st = followed.state,
+                            Status::Done => {
+                                fp = followed.fp;
+                                units = followed.units;
+                                count = followed.count;
+                            }
                             Status::Refused(n) => break 'ops Ended {
                                 status: Status::Refused(n),
                                 state: entry,
@@ -209,7 +350,13 @@ pub fn run_program<'a>(
                                 after: 0,
                             };
                         }
-                        remembered[depth] = st;
+                        remembered[depth] = State {
+                            cfa_fp: fp,
+                            cfa_units: units,
+                            count,
+                            regs,
+                            slots,
+                        };
                         depth += 1;
                     }
                     Op::Recall => {
@@ -221,7 +368,12 @@ pub fn run_program<'a>(
                             };
                         }
                         depth -= 1;
-                        st = remembered[depth];
+                        let st = remembered[depth];
+                        fp = st.cfa_fp;
+                        units = st.cfa_units;
+                        count = st.count;
+                        regs = st.regs;
+                        slots = st.slots;
                     }
                 }
             }

@@ -82,6 +82,10 @@ module _ (regs : List ℕ) (reg : ℕ) where
               let other : i ≡ k → ⊥ = λ s. differs (ap (λ (j : ℕ). getD regs j 0) s ∙ f) in
               omega arith
 
--- the place of a register is one of the state's pairs
+-- the place of a register is one of those looked at
+pub place-low : (regs : List ℕ) (reg count i : ℕ) → placeFrom count 0 regs reg ≡ At i → i < count
+place-low regs reg count i e = omega (arith, place-at regs reg count 0 i e .1)
+
+-- and one of the state's pairs
 pub place-below : (st : State) (reg i : ℕ) → placeOf st reg ≡ At i → i < st .count
-place-below st reg i e = omega (arith, place-at (st .regs) reg (st .count) 0 i e .1)
+place-below st reg i e = place-low (st .regs) reg (st .count) i e

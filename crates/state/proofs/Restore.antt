@@ -1,4 +1,4 @@
--- Laws of `copyDown`, `without` and `restore`. Assumes nothing.
+-- Laws of `copyDown`, `dropped` and `restore`. Assumes nothing.
 use mathlib.Core.Path.{_≡_, refl, sym, _∙_, ap}
 use mathlib.Core.Bool.{Bool, true, false}
 use mathlib.Core.List.{List}
@@ -13,14 +13,14 @@ use Rattle.arch.specs.Answers.{inCode}
 use Rattle.arch.specs.declared.Arch2.{Arch2}
 use Rattle.state.specs.declared.State.{State}
 use Rattle.state.specs.declared.Found.the-variants.{At, Nowhere}
-use Rattle.state.specs.State.{maxSaved, overfull}
+use Rattle.state.specs.State.{maxSaved, stateOf, overfull}
 use Rattle.state.specs.Pairs.{placeOf}
 use Rattle.state.specs.declared.Status.{Status}
 use Rattle.state.specs.declared.Status.the-variants as status
 use Rattle.state.specs.declared.Next.{Next}
 use Rattle.state.specs.Save.{Change, Done, OutOfRange, Full, BadOpening, save}
 use Rattle.state.specs.Answers.{changed, next, told}
-use Rattle.state.specs.Restore.{copyDown, without, returnSaved, restore}
+use Rattle.state.specs.Restore.{copyDown, without, dropped, returnSaved, restore}
 
 one : (xs : List ℕ) (n k i : ℕ) → n ≡ suc k → copyDown n i xs ≡ copyDown k (i + 1) (set xs i (getD xs (i + 1) 0))
 one xs n k i p = rw p
@@ -38,17 +38,26 @@ copy-over xs last k h =
     ap (λ (n : ℕ). copyDown n k xs) none
 
 -- a register whose pair is removed, and one that has none
-pub without-at :
-    (st : State) (reg i : ℕ) (regs slots : List ℕ) → placeOf st reg ≡ At i →
-    regs ≡ copyDown (st .count - 1 - i) i (st .regs) → slots ≡ copyDown (st .count - 1 - i) i (st .slots) →
-    record { «cfa_fp» = st .«cfa_fp»; «cfa_units» = st .«cfa_units»; count = st .count - 1; regs = regs; slots = slots } ≡
-    without st reg
-unfolding without
-without-at st reg i regs slots e p q = rw (e, p, q)
+module _ (st : State) (reg : ℕ) where
+  pub dropped-overfull : maxSaved < st .count → st ≡ dropped st reg
+  unfolding dropped overfull
+  dropped-overfull h = simp (lt-ltb maxSaved (st .count) h)
 
-pub without-none : (st : State) (reg : ℕ) → placeOf st reg ≡ Nowhere → st ≡ without st reg
-unfolding without
-without-none st reg e = rw e
+  module _ (fits : st .count ≤ maxSaved) where
+    pub dropped-at :
+        (i : ℕ) (regs slots : List ℕ) → placeOf st reg ≡ At i →
+        regs ≡ copyDown (st .count - 1 - i) i (st .regs) → slots ≡ copyDown (st .count - 1 - i) i (st .slots) →
+        stateOf (st .«cfa_fp») (st .«cfa_units») (st .count - 1) regs slots ≡ dropped st reg
+    unfolding dropped overfull without
+    dropped-at i regs slots e p q = simp (le-ltb maxSaved (st .count) fits) (rw (e, p, q))
+
+    pub dropped-none : placeOf st reg ≡ Nowhere → st ≡ dropped st reg
+    unfolding dropped overfull without
+    dropped-none e = simp (le-ltb maxSaved (st .count) fits) (rw e)
+
+    pub dropped-without : dropped st reg ≡ without st reg
+    unfolding dropped overfull
+    dropped-without = simp (le-ltb maxSaved (st .count) fits)
 
 -- what each test of a restore comes to, over the numbers of an architecture as the code holds them
 module _ (a : Arch) (r : Arch2) (same : r ≡ inCode a) (st : State) (reg : ℕ) where
@@ -56,7 +65,10 @@ module _ (a : Arch) (r : Arch2) (same : r ≡ inCode a) (st : State) (reg : ℕ)
   unfolding restore overfull
   restore-overfull h = simp (lt-ltb maxSaved (st .count) h)
 
-  module _ (fits : st .count ≤ maxSaved) (w : State) (gone : w ≡ without st reg) where
+  module _ (fits : st .count ≤ maxSaved) (w : State) (drop : w ≡ dropped st reg) where
+    gone : w ≡ without st reg
+    gone = drop ∙ dropped-without st reg fits
+
     -- any register but the return register
     pub restore-other : (reg ≡ r .ra → ⊥) → Done w ≡ restore a st reg
     unfolding restore overfull
@@ -83,7 +95,7 @@ module _ (a : Arch) (r : Arch2) (same : r ≡ inCode a) (st : State) (reg : ℕ)
         let slot : r .«entry_ra_slot» ≡ a .entrySlot = ap (λ (x : Arch2). x .«entry_ra_slot») same in
         simp
         (le-ltb maxSaved (st .count) fits, eq-eqb reg (a .ra) ra, ne-eqb (a .entrySlot) 0 (λ p. z (slot ∙ p)))
-        (cc)
+        (cc gone)
 
 -- a change as the code hands it back is told by document 01's number and value for the change
 pub next-told : (st : State) (x : Change) (r : Next) → r ≡ next st x → told r ≡ changed x

@@ -1,4 +1,6 @@
 -- Document 01's number and values for each case of this crate's answers.
+use mathlib.Core.Bool.{Bool}
+use mathlib.Core.List.{List}
 use mathlib.Core.Option.{Option, some, none}
 use Prim.Native.Nat.{ℕ}
 use Rattle.failure.specs.Outcome.{Outcome, Refused, Answer}
@@ -9,6 +11,8 @@ use Rattle.state.specs.declared.Slot.the-variants as slot
 use Rattle.state.specs.declared.Status.{Status}
 use Rattle.state.specs.declared.Status.the-variants as status
 use Rattle.state.specs.declared.Next.{Next}
+use Rattle.state.specs.declared.Counted.{Counted}
+use Rattle.state.specs.State.{stateOf}
 use Rattle.state.specs.Save as Save
 use Rattle.state.specs.Save.{Change, Done, OutOfRange, Full}
 
@@ -34,6 +38,10 @@ handedBack st (Answer st′) = st′
 -- a change as the code hands it back
 abbrev pub next : State → Change → Next
 next st x = record { status = statusOf x; state = handedBack st (changed x) }
+
+-- pairs that were changed in place, as a state with a base and units
+abbrev pub nextIn : Bool → ℕ → Counted → List ℕ → List ℕ → Next
+nextIn fp units r regs slots = record { status = r .status; state = stateOf fp units (r .count) regs slots }
 
 -- the change that a status and the state beside it stand for
 abbrev pub changeBy : Status → State → Change

@@ -1,6 +1,7 @@
 -- Unwind states (document 01, "The state program": "base sp or fp, units, up to 32 pairs (register, slot)").
 -- The pairs are the first `count` numbers of `regs` and `slots`; what stands past the count is part of a state too.
 use mathlib.Core.Bool.{Bool, false}
+use mathlib.Core.List.{List}
 use Prim.Native.Nat.{ℕ}
 use lib.Dec.{eqb, ltb}
 use lib.ListN.{set, replicate}
@@ -11,6 +12,11 @@ use Rattle.state.specs.declared.State.{State}
 -- the most pairs that a state holds
 abbrev pub maxSaved : ℕ
 maxSaved = 32
+
+-- a state from its fields
+abbrev pub stateOf : Bool → ℕ → ℕ → List ℕ → List ℕ → State
+stateOf fp units count regs slots =
+    record { «cfa_fp» = fp; «cfa_units» = units; count = count; regs = regs; slots = slots }
 
 -- the state counts more pairs than that, which gets 28
 unfoldable pub overfull : State → Bool

@@ -1,15 +1,18 @@
-// Unwind states: ps-unwind's `State`, by value (document 01, "The state program").
+// Unwind states: ps-unwind's `State`, by value (document 01, "The state program"). `save_in` and `drop_in` change the pairs in
+// place, and the methods stand on them.
 // `State::entry`, `State::restore` refuse an architecture other than 1 and 2 with 28. `at_entry` and `restore_by` are for the
 // crates above, which have tested the number: there any other stands for 2.
 ghost use mathlib.Core.Path.{_≡_};
-ghost use Prim.Native.Nat.{_≤_, _<_, _-_};
+ghost use mathlib.Core.Bool.{Bool};
+ghost use Prim.Native.Nat.{ℕ, _≤_, _<_, _-_};
 ghost use Rattle.arch.specs.Arch.{numbers};
 ghost use Rattle.state.specs.State as Spec;
+ghost use Rattle.state.specs.State.{stateOf};
 ghost use Rattle.state.specs.Pairs as Pairs;
 ghost use Rattle.state.specs.Save as Save;
 ghost use Rattle.state.specs.Restore as Restore;
 ghost use Rattle.state.specs.Public as Public;
-ghost use Rattle.state.specs.Answers.{next, slotted};
+ghost use Rattle.state.specs.Answers.{next, nextIn, slotted};
 use arch::is_known;
 use arch::numbers;
 
@@ -54,6 +57,12 @@ pub struct Next {
     pub state: State,
 }
 
+// Whether pairs were changed in place, and how many there are then.
+pub struct Counted {
+    pub status: Status,
+    pub count: usize,
+}
+
 // A register or a slot as a number of the width that `save` and `restore` take.
 fn wide(x: u16) -> usize
     ensures { λ r. ⌜ r ≡ x ⌝ }
@@ -85,6 +94,97 @@ fn copy_down(a: &mut [u16; 32], i: usize, last: usize)
     while k < last {
         a[k] = a[k + 1];
         k += 1;
+    }
+}
+
+// A register saved in a slot, among the pairs of a state with any base and units.
+pub fn save_in<'a, 'b>(
+    regs: &'a mut [u16; 32],
+    slots: &'b mut [u16; 32],
+    count: usize,
+    reg: usize,
+    slot: usize,
+) -> Counted
+    ensures { λ r. ⌜
+        ((fp : Bool) (units : ℕ) →
+        nextIn fp units r (now (regs .exit)) (now (slots .exit)) ≡
+        next (stateOf fp units count (now (regs .entry)) (now (slots .entry)))
+        (Save.save (stateOf fp units count (now (regs .entry)) (now (slots .entry))) reg slot))
+        ⌝ }
+{
+    if MAX_SAVED < count {
+        return Counted {
+            status: Status::BadOpening,
+            count,
+        };
+    }
+    if slot == 0 {
+        return Counted {
+            status: Status::OutOfRange,
+            count,
+        };
+    }
+    if 65535 < slot {
+        return Counted {
+            status: Status::OutOfRange,
+            count,
+        };
+    }
+    if 65535 < reg {
+        return Counted {
+            status: Status::OutOfRange,
+            count,
+        };
+    }
+    match seek(regs, count, reg) {
+        Found::At(i) => {
+            slots[i] = slot as u16;
+            Counted {
+                status: Status::Done,
+                count,
+            }
+        }
+        Found::Nowhere => {
+            if count == MAX_SAVED {
+                return Counted {
+                    status: Status::Full,
+                    count,
+                };
+            }
+            regs[count] = reg as u16;
+            slots[count] = slot as u16;
+            Counted {
+                status: Status::Done,
+                count: count + 1,
+            }
+        }
+    }
+}
+
+// A register's pair removed, if there is one: how many are left. More than 32 pairs stay as they are.
+pub fn drop_in<'a, 'b>(
+    regs: &'a mut [u16; 32],
+    slots: &'b mut [u16; 32],
+    count: usize,
+    reg: usize,
+) -> usize
+    ensures { λ r. ⌜
+        ((fp : Bool) (units : ℕ) →
+        stateOf fp units r (now (regs .exit)) (now (slots .exit)) ≡
+        Restore.dropped (stateOf fp units count (now (regs .entry)) (now (slots .entry))) reg)
+        ⌝ }
+{
+    if MAX_SAVED < count {
+        return count;
+    }
+    match seek(regs, count, reg) {
+        Found::At(i) => {
+            let last = count - 1;
+            copy_down(regs, i, last);
+            copy_down(slots, i, last);
+            last
+        }
+        Found::Nowhere => count,
     }
 }
 
@@ -142,72 +242,29 @@ impl State {
     pub fn save(mut self, reg: usize, slot: usize) -> Next
         ensures { λ r. ⌜ r ≡ next self (Save.save self reg slot) ⌝ }
     {
-        if MAX_SAVED < self.count {
-            return Next {
-                status: Status::BadOpening,
-                state: self,
-            };
-        }
-        if slot == 0 {
-            return Next {
-                status: Status::OutOfRange,
-                state: self,
-            };
-        }
-        if 65535 < slot {
-            return Next {
-                status: Status::OutOfRange,
-                state: self,
-            };
-        }
-        if 65535 < reg {
-            return Next {
-                status: Status::OutOfRange,
-                state: self,
-            };
-        }
-        match seek(&self.regs, self.count, reg) {
-            Found::At(i) => {
-                self.slots[i] = slot as u16;
-                Next {
-                    status: Status::Done,
-                    state: self,
-                }
-            }
-            Found::Nowhere => {
-                let n = self.count;
-                if n == MAX_SAVED {
-                    return Next {
-                        status: Status::Full,
-                        state: self,
-                    };
-                }
-                self.regs[n] = reg as u16;
-                self.slots[n] = slot as u16;
-                self.count = n + 1;
-                Next {
-                    status: Status::Done,
-                    state: self,
-                }
-            }
+        let mut regs = self.regs;
+        let mut slots = self.slots;
+        let saved = save_in(&mut regs, &mut slots, self.count, reg, slot);
+        let status = saved.status;
+        self.count = saved.count;
+        self.regs = regs;
+        self.slots = slots;
+        Next {
+            status,
+            state: self,
         }
     }
 
-    // The state without a register's pair, if it has one.
+    // The state without a register's pair, if it has one and counts at most 32.
     fn without(mut self, reg: usize) -> State
-        requires { ⌜ self .count ≤ 32 ⌝ }
-        ensures { λ r. ⌜ r ≡ Restore.without self reg ⌝ }
+        ensures { λ r. ⌜ r ≡ Restore.dropped self reg ⌝ }
     {
-        match seek(&self.regs, self.count, reg) {
-            Found::At(i) => {
-                let last = self.count - 1;
-                copy_down(&mut self.regs, i, last);
-                copy_down(&mut self.slots, i, last);
-                self.count = last;
-                self
-            }
-            Found::Nowhere => self,
-        }
+        let mut regs = self.regs;
+        let mut slots = self.slots;
+        self.count = drop_in(&mut regs, &mut slots, self.count, reg);
+        self.regs = regs;
+        self.slots = slots;
+        self
     }
 
     // A register back to its entry rule, by the numbers of an architecture.

@@ -1,4 +1,5 @@
-//! The C interface of the proved library, as `crates/capi` declares it. A slice is a pointer and a length.
+//! The C interface of the proved library: the structs of `crates/answers` and the functions of `crates/capi`. A slice is a pointer
+//! and a length.
 use crate::{Record, Regs, State, Unwinding};
 
 #[repr(C)]

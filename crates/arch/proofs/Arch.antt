@@ -1,6 +1,6 @@
 -- Laws of the numbers of an architecture. Both architectures' facts stand in `fits`; every other law takes what it needs of them.
 -- Assumes nothing.
-use mathlib.Core.Path.{_≡_, refl, sym, subst}
+use mathlib.Core.Path.{_≡_, refl}
 use mathlib.Core.Bool.{Bool, true, false}
 use Prim.Native.Nat.{ℕ, _+_, _≤_, _<_}
 use lib.Dec.{eqb, lit<, lit≤}

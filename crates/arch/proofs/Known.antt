@@ -2,7 +2,7 @@
 use mathlib.Core.Path.{_≡_}
 use mathlib.Core.Bool.{true, false}
 use Prim.Native.Nat.{ℕ}
-use Rattle.failure.specs.Outcome.{Outcome, Refused, Answer, _>>=_}
+use Rattle.failure.specs.Outcome.{Outcome, Refused, _>>=_}
 use Rattle.failure.specs.Failure.{BadOpening}
 use Rattle.arch.specs.Arch.{Arch, numbers, isKnown, known}
 

@@ -1,6 +1,5 @@
 -- The preserved registers are those that document 01 names: 3, 6, 12 to 15 (x86-64); 19 to 30, 72 to 79 (aarch64). Assumes nothing.
 use mathlib.Core.Bool.{Bool, true, false, _&&_, _||_}
-use mathlib.Core.List.{List, [], _∷_}
 use mathlib.Core.Path.{_≡_, refl}
 use Prim.Native.Nat.{ℕ, zero, suc, _+_}
 use lib.Dec.{eqb, leb}

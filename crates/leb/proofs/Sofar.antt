@@ -1,11 +1,10 @@
 -- What the number reader's loop has read so far, and what a turn adds to it. Assumes nothing.
 use mathlib.Core.Path.{_≡_, refl, sym, _∙_, ap}
-use mathlib.Core.Bool.{Bool, true, false}
-use Prim.Native.Nat.{ℕ, zero, suc, _+_, _-_, _*_, _%_, _^_, _≤_, _<_}
+use Prim.Native.Nat.{ℕ, suc, _+_, _-_, _*_, _%_, _^_, _≤_, _<_}
 use native.Mathlib.Nat.{pow-le-pow-right, pow-suc, mul-le-mul-right}
 use native.Mathlib.Numerals.{add-one}
 use native.Mathlib.Omega.{arith}
-use lib.Dec.{ltb, lit<}
+use lib.Dec.{lit<}
 use borrow.Author.Tests.{lt-ltb, le-ltb}
 use Rattle.mem.specs.Memory.{Memory}
 use Rattle.leb.specs.Reader.{byteAt, above, fromByte, ulebIn, atMost32Bits, ulebAt}

@@ -1,6 +1,5 @@
 -- The number reader (document 01, "The state program": "Uleb: DWARF's, padding allowed, at most 5 bytes, at most 2^32 - 1").
 -- It answers finer than 18: `numbered` folds a number's two faults to 18, and `numberedByte` a byte's.
-use mathlib.Core.List.{List}
 use Prim.Native.Nat.{ℕ, zero, suc, _+_, _-_, _*_, _^_}
 use lib.Dec.{leb, ltb}
 use Rattle.failure.specs.Choice.{if_then_else_}

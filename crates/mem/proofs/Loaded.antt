@@ -1,12 +1,12 @@
 -- What a part that was returned for the n bytes at an address says of the number there, over the width. Assumes nothing.
-use mathlib.Core.Path.{_≡_, sym, _∙_, ap}
+use mathlib.Core.Path.{_≡_, sym, ap}
 use mathlib.Core.Logic.{⊎-elim}
 use mathlib.Core.List.{List}
 use Prim.Native.Nat.{ℕ, _<_, _^_}
 use native.Mathlib.Omega.{arith}
 use lib.ListN.{length}
 use denote.Ref.{RefT}
-use Rattle.failure.specs.Outcome.{Outcome, Refused, Answer, _>>=_}
+use Rattle.failure.specs.Outcome.{Refused, Answer}
 use Rattle.failure.specs.Failure.{OutsideMemory}
 use Rattle.mem.specs.Memory.{Memory, lent}
 use Rattle.mem.specs.Place.{placeOf, bytesAt}

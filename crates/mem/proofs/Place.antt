@@ -1,16 +1,15 @@
 -- Laws of `holds`, `placeOf` and `bytesAt`. Assumes nothing.
-use mathlib.Core.Path.{_≡_, refl, sym, _∙_, ap, subst}
+use mathlib.Core.Path.{_≡_, refl, _∙_, ap, subst}
 use mathlib.Core.Bool.{Bool, true, false}
-use mathlib.Core.List.{List, [], _∷_}
-use Prim.Native.Nat.{ℕ, suc, _+_, _-_, _≤_, _<_}
+use mathlib.Core.List.{[], _∷_}
+use Prim.Native.Nat.{ℕ, suc, _+_, _-_, _≤_}
 use native.Mathlib.Omega.{arith}
 use lib.Dec.{leb}
-use lib.ListN.{length, take, drop, length-take, length-drop}
+use lib.ListN.{length, take, drop}
 use borrow.Author.Tests.{leb-true, le-leb}
-use Rattle.failure.specs.Choice.{if_then_else_}
 use Rattle.failure.specs.Outcome.{Outcome, Refused, Answer}
 use Rattle.failure.specs.Failure.{OutsideMemory}
-use Rattle.mem.specs.Memory.{Region, Memory, size, bytesOf}
+use Rattle.mem.specs.Memory.{Memory, size, bytesOf}
 use Rattle.mem.specs.Place.{Spot, holds, placeFrom, placeOf, bytesAt}
 use Rattle.mem.proofs.Tests.{both}
 

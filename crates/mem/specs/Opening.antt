@@ -1,6 +1,6 @@
 -- When what is lent is accepted (document 01, "Opening and memory"). Whatever is not accepted gets 28.
-use mathlib.Core.Bool.{Bool, true, false, _&&_, _||_}
-use mathlib.Core.List.{List, [], _∷_}
+use mathlib.Core.Bool.{Bool, true, _&&_, _||_}
+use mathlib.Core.List.{[], _∷_}
 use Prim.Native.Nat.{ℕ, _+_, _^_}
 use lib.Dec.{leb, eqb}
 use Rattle.mem.specs.Memory.{Region, Memory, Lent, size}

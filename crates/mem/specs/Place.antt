@@ -1,5 +1,5 @@
 -- Where the bytes at an address stand: in whichever region holds them all (document 01, "Opening and memory").
-use mathlib.Core.Bool.{Bool, true, false, _&&_}
+use mathlib.Core.Bool.{Bool, _&&_}
 use mathlib.Core.List.{List, [], _∷_}
 use Prim.Native.Nat.{ℕ, suc, _+_, _-_}
 use lib.Dec.{leb}
@@ -7,7 +7,7 @@ use lib.ListN.{take, drop}
 use Rattle.failure.specs.Choice.{if_then_else_}
 use Rattle.failure.specs.Outcome.{Outcome, Refused, Answer}
 use Rattle.failure.specs.Failure.{OutsideMemory}
-use Rattle.mem.specs.Memory.{Region, Memory, size}
+use Rattle.mem.specs.Memory.{Memory, size}
 use Rattle.mem.specs.declared.load.Place.{Place}
 use Rattle.mem.specs.declared.load.Place.the-variants.{Section, Stack, Neither}
 

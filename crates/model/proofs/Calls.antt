@@ -1,28 +1,25 @@
 -- A list of sweep calls: regular ones are served, and the answers are the landings that are due, then finished. Assumes nothing.
-use mathlib.Core.Bool.{Bool, true, false}
+use mathlib.Core.Bool.{true, false}
 use mathlib.Core.List.{List, [], _∷_}
-use mathlib.Core.Logic.{_⊎_, inl, inr, ⊎-elim}
+use mathlib.Core.Logic.{_⊎_, ⊎-elim}
 use mathlib.Core.Path.{_≡_, refl, sym, _∙_, ap, subst}
-use Prim.Native.Nat.{ℕ, zero, suc, _+_, _≤_, _<_}
+use Prim.Native.Nat.{ℕ, suc}
 use native.Mathlib.Omega.{arith}
-use lib.Dec.{ltb}
 use lib.ListN.{length}
 use borrow.Author.Tests.{lt-ltb, le-ltb}
-use Rattle.failure.specs.Choice.{if_then_else_}
 use Rattle.failure.specs.Outcome.{Outcome, Refused, Answer}
 use Rattle.mem.specs.Opening.{opens}
-use Rattle.arch.specs.Arch.{Arch, numbers, isKnown}
+use Rattle.arch.specs.Arch.{numbers, isKnown}
 use Rattle.model.specs.declared.Unwinding.{Unwinding}
-use Rattle.model.specs.FrameStep.{maxFrames}
 use Rattle.model.specs.Cleanup as Cleanup
 use Rattle.model.specs.Cleanup.{Cleaned, clean}
 use Rattle.model.specs.Unwinding.{opened, frameOf, choiceOf, resume, resumed}
-use Rattle.model.specs.Machine.{Open, Machine, lentBy}
+use Rattle.model.specs.Machine.{Machine, lentBy}
 use Rattle.model.specs.Throw.{standing}
 use Rattle.model.specs.Expected.{LandingPad, Given, Finished, firstOf}
-use Rattle.model.specs.Demand.{ResumeCall, answerOf, regular, current, currentBy, IsRefused, Admissible, RegularServed, given, unlessRefused, answers}
+use Rattle.model.specs.Demand.{ResumeCall, answerOf, regular, current, currentBy, IsRefused, Admissible, RegularServed, given, answers}
 use Rattle.model.proofs.Walks.{Walks}
-use Rattle.model.proofs.Cleaning.{chosen-above, Stands, At, Amid, Over, Cleans, cleans}
+use Rattle.model.proofs.Cleaning.{chosen-above, At, Amid, Over, Cleans, cleans}
 
 -- what is lent is accepted, so a call comes to its sweep
 pub opened-known : {A : Type 0} (m : Machine) (o : Outcome A) → opens (lentBy m) ≡ true → isKnown (m .arch) ≡ true → opened (lentBy m) (m .arch) o ≡ o

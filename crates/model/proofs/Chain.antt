@@ -6,7 +6,7 @@ use mathlib.Core.Path.{_≡_}
 use Prim.Native.Nat.{ℕ, _-_, _^_, _≤_, _<_}
 use lib.ListN.{length, getD}
 use Rattle.failure.specs.Failure.{oneOf}
-use Rattle.mem.specs.Memory.{Region, Memory}
+use Rattle.mem.specs.Memory.{Region}
 use Rattle.mem.specs.Opening.{opens}
 use Rattle.arch.specs.Arch.{Arch, numbers, isKnown, stripPac}
 use Rattle.arch.specs.File.{columns, sp, pc}

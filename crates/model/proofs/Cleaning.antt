@@ -1,7 +1,6 @@
 -- The cleanup phase gives the next landing that is due. Assumes nothing.
-use mathlib.Core.Bool.{Bool, true, false, _&&_}
+use mathlib.Core.Bool.{Bool, true, false}
 use mathlib.Core.List.{List, [], _∷_}
-use mathlib.Core.Logic.{_⊎_, inl, inr}
 use mathlib.Core.Path.{_≡_, refl, sym, _∙_, ap, subst}
 use Prim.Native.Nat.{ℕ, zero, suc, _+_, _≤_, _<_}
 use native.Mathlib.Omega.{arith}
@@ -9,7 +8,7 @@ use lib.Dec.{eqb, ltb}
 use lib.ListN.{length}
 use borrow.Author.Tests.{eq-eqb, lt-ltb, le-ltb}
 use Rattle.failure.specs.Choice.{if_then_else_}
-use Rattle.failure.specs.Outcome.{Outcome, Answer, _>>=_}
+use Rattle.failure.specs.Outcome.{Outcome, Answer}
 use Rattle.mem.specs.Memory.{Region}
 use Rattle.mem.proofs.Tests.{both}
 use Rattle.arch.specs.Arch.{Arch, numbers}
@@ -17,9 +16,9 @@ use Rattle.arch.specs.File.{sp, pc}
 use Rattle.rows.specs.Row.{Found, None, Pad, cleanup, catch}
 use Rattle.personality.specs.Reason as Reason
 use Rattle.model.specs.FrameStep.{Frame, maxFrames}
-use Rattle.model.specs.Search.{Searched, Chosen, Stopped, Ended}
+use Rattle.model.specs.Search.{Chosen, Stopped}
 use Rattle.model.specs.Cleanup as Cleanup
-use Rattle.model.specs.Cleanup.{Choice, Cleaned, byRow, cleanAt, cleanFrom}
+use Rattle.model.specs.Cleanup.{Choice, Cleaned, byRow, cleanFrom}
 use Rattle.model.specs.Machine.{Open}
 use Rattle.model.specs.Throw.{Standing, standing, rowOf}
 use Rattle.model.specs.Sound.{goodFrame, goodFrames}
@@ -28,7 +27,7 @@ use Rattle.model.specs.Demand.{given}
 use Rattle.model.proofs.Chain.{AllLive, Chain, Agrees}
 use Rattle.model.proofs.Stands.{frame, Goes}
 use Rattle.model.proofs.Walks.{Walks, stood}
-use Rattle.model.proofs.Landings.{Lands, lands}
+use Rattle.model.proofs.Landings.{lands}
 
 -- the chosen frame is not below the first that was looked at
 pub chosen-above : (a : Arch) (section : Region) (n : ℕ) (ss : List Standing) (k s : ℕ) → outcomeFrom a section n ss ≡ Chosen k s → n ≤ k

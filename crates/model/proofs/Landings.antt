@@ -1,22 +1,22 @@
 -- A landing pad's file has sp and preserved registers as at the frame's call, and pc its record's start + pad. Assumes nothing.
 use mathlib.Core.Bool.{Bool, true, false, _||_}
 use mathlib.Core.List.{List, [], _∷_, map}
-use mathlib.Core.Path.{_≡_, refl, sym, _∙_, ap}
-use Prim.Native.Nat.{ℕ, _+_, _%_, _^_}
+use mathlib.Core.Path.{_≡_, refl}
+use Prim.Native.Nat.{ℕ}
 use lib.Dec.{eqb}
 use lib.ListN as ListN
 use borrow.Author.Tests.{eq-eqb}
 use Rattle.failure.specs.Failure.{oneOf}
-use Rattle.failure.specs.Outcome.{Outcome, Answer, _>>=_}
+use Rattle.failure.specs.Outcome.{Answer}
 use Rattle.mem.specs.Wrapping.{sum}
 use Rattle.arch.specs.Arch.{Arch, numbers}
-use Rattle.arch.specs.File.{sp, pc, setPc}
+use Rattle.arch.specs.File.{setPc}
 use Rattle.personality.proofs.Reasons.{install}
 use Rattle.model.specs.FrameStep.{Frame}
 use Rattle.model.specs.Cleanup as Cleanup
-use Rattle.model.specs.Cleanup.{Cleaned, installPad}
+use Rattle.model.specs.Cleanup.{installPad}
 use Rattle.model.specs.Machine.{Open, value}
-use Rattle.model.specs.Expected.{LandingPad, Given, Installed, padOf}
+use Rattle.model.specs.Expected.{Installed, padOf}
 use Rattle.model.specs.Demand.{given}
 use Rattle.model.proofs.Chain.{Agrees}
 use Rattle.model.proofs.Files.{pad-file}

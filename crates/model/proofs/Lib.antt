@@ -14,7 +14,6 @@ pub mod Changes
 pub mod Calling
 pub mod Entering
 pub mod Steps
-pub mod Unmoved
 pub mod Restored
 pub mod Loaded
 pub mod Fitting

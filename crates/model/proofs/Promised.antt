@@ -4,21 +4,19 @@ use mathlib.Core.List.{List, [], _∷_}
 use mathlib.Core.Path.{_≡_, refl, sym, _∙_, ap, subst}
 use Prim.Native.Nat.{ℕ, zero, suc}
 use lib.ListN.{getD}
-use Rattle.failure.specs.Outcome.{Outcome, Refused, Answer}
+use Rattle.failure.specs.Outcome.{Answer}
 use Rattle.mem.specs.Memory.{Lent}
 use Rattle.mem.specs.Opening.{opens}
-use Rattle.arch.specs.Arch.{Arch, numbers, isKnown}
+use Rattle.arch.specs.Arch.{numbers, isKnown}
 use Rattle.model.specs.declared.Unwinding.{Unwinding}
-use Rattle.model.specs.Search.{Searched}
-use Rattle.model.specs.Cleanup.{Cleaned}
 use Rattle.model.specs.Unwinding.{frame0, raise, raised, resume, resumed}
 use Rattle.model.specs.Machine.{Machine, lentBy}
 use Rattle.model.specs.Event.{steps}
 use Rattle.model.specs.Throw.{Throw, throwAllowed}
 use Rattle.model.specs.Sound.{Sound}
-use Rattle.model.specs.Expected.{LandingPad, Given, Installed, Finished, outcome, due, firstOf}
-use Rattle.model.specs.Demand.{answerOf, regular, given, raisedBy, unwindingOf}
-use Rattle.model.specs.Call.{after, nth, Gives, AtThrow, Promised}
+use Rattle.model.specs.Expected.{LandingPad, Given, Finished, outcome, due, firstOf}
+use Rattle.model.specs.Demand.{answerOf, raisedBy, unwindingOf}
+use Rattle.model.specs.Call.{after, nth, Gives, Promised}
 use Rattle.model.proofs.Chain.{Inv}
 use Rattle.model.proofs.Walks.{Walks}
 use Rattle.model.proofs.Calls.{Due, Serves, serves}

@@ -1,13 +1,12 @@
 -- The search phase answers what the machine's rows say. Assumes nothing.
 use mathlib.Core.Bool.{Bool, true, false}
 use mathlib.Core.List.{List, [], _∷_}
-use mathlib.Core.Path.{_≡_, refl, sym, _∙_, ap}
+use mathlib.Core.Path.{_≡_, refl, ap}
 use Prim.Native.Nat.{ℕ, zero, suc, _+_, _≤_, _<_}
 use native.Mathlib.Omega.{arith}
 use lib.Dec.{eqb}
 use lib.ListN.{length}
-use Rattle.failure.specs.Choice.{if_then_else_}
-use Rattle.failure.specs.Outcome.{Outcome, Answer, _>>=_}
+use Rattle.failure.specs.Outcome.{Answer}
 use Rattle.mem.specs.Memory.{Region}
 use Rattle.mem.proofs.Tests.{both}
 use Rattle.arch.specs.Arch.{Arch, numbers}
@@ -15,10 +14,10 @@ use Rattle.arch.specs.File.{sp, pc}
 use Rattle.rows.specs.Row.{Found, None, Pad, cleanup, catch}
 use Rattle.personality.specs.Reason as Reason
 use Rattle.personality.specs.Reason.{searchedCode}
-use Rattle.model.specs.FrameStep.{Frame, maxFrames}
-use Rattle.model.specs.Search.{Searched, searchCode, byCode, searchAt, searchFrom}
+use Rattle.model.specs.FrameStep.{maxFrames}
+use Rattle.model.specs.Search.{Searched, searchCode, byCode, searchFrom}
 use Rattle.model.specs.Machine.{Open}
-use Rattle.model.specs.Throw.{Standing, standing, rowOf}
+use Rattle.model.specs.Throw.{standing, rowOf}
 use Rattle.model.specs.Sound.{goodFrame, goodFrames}
 use Rattle.model.specs.Expected.{outcomeBy, outcomeFrom}
 use Rattle.model.proofs.Chain.{AllLive, Chain, Agrees}

@@ -1,28 +1,22 @@
 -- A frame step of the unwinder goes from a described frame to its caller, and ends after the last. Assumes nothing.
-use mathlib.Core.Bool.{Bool, true, false, not, _&&_, _||_}
+use mathlib.Core.Bool.{Bool, true, false, not, _&&_}
 use mathlib.Core.List.{List, [], _∷_}
-use mathlib.Core.Option.{Option, none, some}
 use mathlib.Core.Path.{_≡_, refl, sym, _∙_, ap, subst}
 use Prim.Native.Nat.{ℕ, _+_, _≤_, _<_}
 use native.Mathlib.Omega.{arith}
-use lib.Dec.{eqb, ltb}
-use lib.ListN.{getD}
-use borrow.Author.Tests.{eqb-true, eqb-false, eq-eqb, ne-eqb, lt-ltb, le-ltb}
-use Rattle.failure.specs.Choice.{if_then_else_}
-use Rattle.failure.specs.Outcome.{Outcome, Refused, Answer, _>>=_}
-use Rattle.failure.specs.Failure.{StackNotAdvancing}
+use lib.Dec.{eqb}
+use borrow.Author.Tests.{eq-eqb, ne-eqb, lt-ltb, le-ltb}
+use Rattle.failure.specs.Outcome.{Answer}
 use Rattle.mem.specs.Memory.{Region, Memory}
-use Rattle.mem.specs.Opening.{opens}
 use Rattle.arch.specs.Arch.{Arch, numbers}
 use Rattle.arch.specs.File.{sp, pc}
 use Rattle.lookup.specs.declared.Record.{Record}
-use Rattle.lookup.specs.Record.{holds}
-use Rattle.lookup.specs.Lookup.{Found, lookup}
+use Rattle.lookup.specs.Lookup.{lookup}
 use Rattle.lookup.specs.Sound.{sound}
 use Rattle.lookup.proofs.Sounds.{lookup-record}
-use Rattle.model.specs.FrameStep.{Frame, Step, End, Past, maxFrames, lookedUp, callerFile, notAdvancing, callerOf, past, pastFound, frameStep}
+use Rattle.model.specs.FrameStep.{Frame, End, Past, maxFrames, lookedUp, callerFile, notAdvancing, past, frameStep}
 use Rattle.model.specs.Machine.{Open}
-use Rattle.model.proofs.Chain.{FrameAt, Live, Agrees}
+use Rattle.model.proofs.Chain.{FrameAt, Agrees}
 
 -- a frame of the walk
 abbrev pub frame : ℕ → Bool → List ℕ → Frame

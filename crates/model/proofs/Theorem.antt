@@ -1,30 +1,29 @@
 -- Demand 3: every landing, and no other. Assumes nothing.
-use mathlib.Core.Bool.{Bool, true, false}
+use mathlib.Core.Bool.{true}
 use mathlib.Core.List.{List, [], _∷_}
-use mathlib.Core.Path.{_≡_, refl, sym, _∙_, ap, subst}
-use Prim.Native.Nat.{ℕ, _+_, _≤_, _<_}
+use mathlib.Core.Path.{_≡_, refl, sym, _∙_, subst}
+use Prim.Native.Nat.{ℕ, _≤_, _<_}
 use native.Mathlib.Omega.{arith}
 use lib.Dec.{ltb}
-use lib.ListN.{length, getD, length-set}
+use lib.ListN.{length-set}
 use lib.Seq.{getD-set-same, getD-set-other}
 use borrow.Author.Tests.{ltb-true}
-use Rattle.failure.specs.Outcome.{Outcome, Answer}
-use Rattle.arch.specs.Arch.{Arch, numbers}
-use Rattle.arch.specs.File.{columns, pcColumn, sp, pc}
+use Rattle.failure.specs.Outcome.{Answer}
+use Rattle.arch.specs.Arch.{numbers}
+use Rattle.arch.specs.File.{pcColumn, sp, pc}
 use Rattle.lookup.specs.Record.{holds}
 use Rattle.lookup.specs.Sound.{sound}
-use Rattle.model.specs.declared.Unwinding.{Unwinding}
-use Rattle.model.specs.FrameStep.{maxFrames, lookedUp}
+use Rattle.model.specs.FrameStep.{lookedUp}
 use Rattle.model.specs.Search.{Searched, Chosen, Stopped, Ended, search}
 use Rattle.model.specs.Unwinding.{frame0, raise, raised}
-use Rattle.model.specs.Machine.{Open, Machine, Fresh}
+use Rattle.model.specs.Machine.{Open, Machine}
 use Rattle.model.specs.Described.{described}
-use Rattle.model.specs.Event.{Event, steps}
+use Rattle.model.specs.Event.{steps}
 use Rattle.model.specs.Throw.{Throw, lookedAt, thrown, throwable, throwAllowed, framesAt}
 use Rattle.model.specs.Sound.{Sound}
 use Rattle.model.specs.Expected.{outcome, due, dueBy, padsFrom}
 use Rattle.model.specs.Demand.{raisedBy, unwindingOf, EveryLanding, Demand3}
-use Rattle.model.proofs.Chain.{Inner, FrameAt, Chain, Inv, Agrees}
+use Rattle.model.proofs.Chain.{Inner, Chain, Inv, Agrees}
 use Rattle.model.proofs.Guard.{each}
 use Rattle.model.proofs.Files.{pointers}
 use Rattle.model.proofs.InSection.{run-in-section}

@@ -18,7 +18,7 @@ use Rattle.model.specs.Machine.{Machine, Fresh, lentBy, value}
 use Rattle.model.specs.Event.{Event, steps}
 use Rattle.model.specs.Throw.{Throw, throwAllowed}
 use Rattle.model.specs.Sound.{Sound}
-use Rattle.model.specs.Expected.{LandingPad, Given, Installed, Fatal, Finished, outcome, due, firstOf}
+use Rattle.model.specs.Expected.{Given, Installed, Fatal, Finished, outcome, due, firstOf}
 
 -- a sweep call: any architecture, anything lent, any unwinding
 pub record ResumeCall : Type 0 where

@@ -1,5 +1,5 @@
 -- What a run's answer says of the run. Assumes nothing.
-use mathlib.Core.Path.{_≡_, refl, sym, _∙_, ap}
+use mathlib.Core.Path.{_≡_, sym, _∙_, ap}
 use Prim.Native.Nat.{ℕ}
 use native.Mathlib.Omega.{arith}
 use Rattle.failure.specs.Outcome as Outcome
@@ -8,7 +8,6 @@ use Rattle.state.specs.declared.State.{State}
 use Rattle.program.specs.Run.{Ran}
 use Rattle.program.specs.Answers.{ended}
 use Rattle.program.specs.declared.Ended.{Ended}
-use Rattle.program.specs.declared.Status.{Status}
 use Rattle.program.specs.declared.Status.the-variants.{Done, Refused}
 
 pub ran-done : (entry : State) (o : Outcome Ran) (r : Ended) → r ≡ ended entry o → r .status ≡ Done →

@@ -7,7 +7,7 @@ use native.Mathlib.Omega.{arith}
 use lib.Dec.{eqb, ltb, lit<}
 use lib.ListN as ListN
 use borrow.Author.Tests.{eq-eqb, ne-eqb, ltb-false}
-use Rattle.failure.specs.Outcome.{Outcome, Refused, Answer, _>>=_}
+use Rattle.failure.specs.Outcome.{Outcome, Refused, Answer}
 use Rattle.mem.specs.Memory.{Memory}
 use Rattle.mem.specs.Wrapping.{sum}
 use Rattle.arch.specs.Arch.{Arch, numbers}

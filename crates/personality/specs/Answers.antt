@@ -1,6 +1,4 @@
 -- Document 01's number and values for a personality's answer.
-use mathlib.Core.List.{List}
-use Prim.Native.Nat.{ℕ}
 use Rattle.failure.specs.Outcome as Outcome
 use Rattle.failure.specs.Outcome.{Outcome, Answer}
 use Rattle.arch.specs.declared.Regs.{Regs}

@@ -1,5 +1,5 @@
 -- An event against the rules leaves the machine as it was. Assumes nothing.
-use mathlib.Core.Bool.{Bool, true, false, not, _&&_}
+use mathlib.Core.Bool.{true, false, not, _&&_}
 use mathlib.Core.List.{List, [], _∷_}
 use mathlib.Core.Option.{Option, none, some}
 use mathlib.Core.Path.{_≡_, refl, _∙_, ap}
@@ -9,7 +9,7 @@ use Rattle.mem.proofs.Tests.{both}
 use Rattle.lookup.specs.Tables.{Entry, records, named}
 use Rattle.model.specs.Machine.{Open, Machine}
 use Rattle.model.specs.Event.{Event, Call, Spill, Change, Reload, Move, Write, call, spill, change, reload, move, step, steps}
-use Rattle.model.specs.Event.{callAllowed, spillAllowed, changeAllowed, reloadAllowed, writeAllowed}
+use Rattle.model.specs.Event.{callAllowed, spillAllowed, changeAllowed, reloadAllowed}
 use Rattle.runs.specs.Story.{isThere, innermost, within, Told, does, against, events, lawful, toldRight}
 
 -- one that is not leaves the machine as it was

@@ -1,9 +1,9 @@
 -- The part of a closed run that is not mere computing. Assumes nothing.
-use mathlib.Core.Bool.{Bool, true, false, _&&_}
+use mathlib.Core.Bool.{Bool, true, _&&_}
 use mathlib.Core.List.{List, [], _∷_}
 use mathlib.Core.Logic.{inl}
 use mathlib.Core.Path.{_≡_, refl, sym, _∙_, ap}
-use Prim.Native.Nat.{ℕ, zero, suc, _+_, _^_, _<_}
+use Prim.Native.Nat.{ℕ, zero, suc, _^_, _<_}
 use lib.Dec.{ltb, lit<}
 use lib.ListN.{length, getD}
 use borrow.Author.Tests.{ltb-true}
@@ -18,12 +18,11 @@ use Rattle.model.specs.declared.Unwinding.{Unwinding}
 use Rattle.model.specs.Search.{Searched}
 use Rattle.model.specs.Unwinding.{frame0, raised}
 use Rattle.model.specs.Machine.{Machine, Fresh, memory, lentBy}
-use Rattle.model.specs.Event.{steps}
 use Rattle.model.specs.Throw.{Throw, throwAllowed, framesAt}
-use Rattle.model.specs.Sound.{Sound, goodFrames}
+use Rattle.model.specs.Sound.{goodFrames}
 use Rattle.model.specs.Expected.{LandingPad, Given, outcome, due, firstOf}
-use Rattle.model.specs.Demand.{ResumeCall, answerOf, regular, currentBy, current, Admissible, unlessRefused, answers, raisedBy, unwindingOf}
-use Rattle.runs.specs.Story.{Story, reached, regulars, answersAfter, callsFor, Holds}
+use Rattle.model.specs.Demand.{answerOf, regular, currentBy, current, Admissible, unlessRefused, answers, raisedBy, unwindingOf}
+use Rattle.runs.specs.Story.{Story, reached, regulars, callsFor, Holds}
 
 -- regular sweep calls are a list that demand 3 speaks of
 pub regulars-admissible : (n : ℕ) (m : Machine) (u : Unwinding) → Admissible m u (regulars n m u)

@@ -1,5 +1,5 @@
 -- `arch::sp_column` meets its contract. Assumes nothing.
-use mathlib.Core.Path.{_≡_, ap}
+use mathlib.Core.Path.{ap}
 use native.Mathlib.Omega.{arith}
 use borrow.Author.Needs.{needs}
 use Rattle.arch.specs.declared.Arch2.{Arch2}

@@ -1,7 +1,7 @@
 -- `capi::eko_fp` meets its contract. Assumes nothing.
 use mathlib.Core.Path.{_∙_, ap}
 use borrow.Author.Needs.{needs}
-use Rattle.capi.specs.Interface.{number}
+use Rattle.answers.specs.Interface.{number}
 use Rattle.capi.proofs.eko_fp.Statement.{statement}
 use Rattle.capi.proofs.eko_fp.Tie as tie
 

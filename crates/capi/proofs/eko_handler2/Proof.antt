@@ -1,7 +1,7 @@
 -- `capi::eko_handler2` meets its contract. Assumes nothing.
 use mathlib.Core.Path.{_∙_, ap}
 use borrow.Author.Needs.{needs}
-use Rattle.capi.specs.Interface.{landing}
+use Rattle.answers.specs.Interface.{landing}
 use Rattle.capi.proofs.eko_handler2.Statement.{statement}
 use Rattle.capi.proofs.eko_handler2.Tie as tie
 

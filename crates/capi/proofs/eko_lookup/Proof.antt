@@ -1,7 +1,7 @@
 -- `capi::eko_lookup` meets its contract. Assumes nothing.
 use mathlib.Core.Path.{_∙_, ap}
 use borrow.Author.Needs.{needs}
-use Rattle.capi.specs.Interface.{function}
+use Rattle.answers.specs.Interface.{function}
 use Rattle.capi.proofs.eko_lookup.Statement.{statement}
 use Rattle.capi.proofs.eko_lookup.Tie as tie
 

@@ -1,7 +1,7 @@
 -- `capi::eko_next_frame` meets its contract. Assumes nothing.
 use mathlib.Core.Path.{_∙_, ap}
 use borrow.Author.Needs.{needs}
-use Rattle.capi.specs.Interface.{stepped}
+use Rattle.answers.specs.Interface.{stepped}
 use Rattle.capi.proofs.eko_next_frame.Statement.{statement}
 use Rattle.capi.proofs.eko_next_frame.Tie as tie
 

@@ -1,7 +1,7 @@
 -- `capi::eko_personality` meets its contract. Assumes nothing.
 use mathlib.Core.Path.{sym, _∙_, ap}
 use borrow.Author.Needs.{needs}
-use Rattle.capi.specs.Interface.{decided}
+use Rattle.answers.specs.Interface.{decided}
 use Rattle.capi.proofs.eko_personality.Statement.{statement}
 use Rattle.capi.proofs.eko_personality.Tie as tie
 

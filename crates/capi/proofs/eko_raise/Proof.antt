@@ -1,7 +1,7 @@
 -- `capi::eko_raise` meets its contract. Assumes nothing.
 use mathlib.Core.Path.{_∙_, ap}
 use borrow.Author.Needs.{needs}
-use Rattle.capi.specs.Interface.{raised}
+use Rattle.answers.specs.Interface.{raised}
 use Rattle.capi.proofs.eko_raise.Statement.{statement}
 use Rattle.capi.proofs.eko_raise.Tie as tie
 

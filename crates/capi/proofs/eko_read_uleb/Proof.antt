@@ -1,7 +1,7 @@
 -- `capi::eko_read_uleb` meets its contract. Assumes nothing.
 use mathlib.Core.Path.{_∙_, ap}
 use borrow.Author.Needs.{needs}
-use Rattle.capi.specs.Interface.{read}
+use Rattle.answers.specs.Interface.{read}
 use Rattle.capi.proofs.eko_read_uleb.Statement.{statement}
 use Rattle.capi.proofs.eko_read_uleb.Tie as tie
 

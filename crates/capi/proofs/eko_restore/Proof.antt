@@ -1,7 +1,7 @@
 -- `capi::eko_restore` meets its contract. Assumes nothing.
 use mathlib.Core.Path.{_∙_, ap}
 use borrow.Author.Needs.{needs}
-use Rattle.capi.specs.Interface.{changed}
+use Rattle.answers.specs.Interface.{changed}
 use Rattle.capi.proofs.eko_restore.Statement.{statement}
 use Rattle.capi.proofs.eko_restore.Tie as tie
 

@@ -1,7 +1,7 @@
 -- `capi::eko_resume` meets its contract. Assumes nothing.
 use mathlib.Core.Path.{_∙_, ap}
 use borrow.Author.Needs.{needs}
-use Rattle.capi.specs.Interface.{resumed}
+use Rattle.answers.specs.Interface.{resumed}
 use Rattle.capi.proofs.eko_resume.Statement.{statement}
 use Rattle.capi.proofs.eko_resume.Tie as tie
 

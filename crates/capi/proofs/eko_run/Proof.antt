@@ -1,7 +1,7 @@
 -- `capi::eko_run` meets its contract. Assumes nothing.
 use mathlib.Core.Path.{_∙_, ap}
 use borrow.Author.Needs.{needs}
-use Rattle.capi.specs.Interface.{ended}
+use Rattle.answers.specs.Interface.{ended}
 use Rattle.capi.proofs.eko_run.Statement.{statement}
 use Rattle.capi.proofs.eko_run.Tie as tie
 

@@ -1,7 +1,7 @@
 -- `capi::eko_save` meets its contract. Assumes nothing.
 use mathlib.Core.Path.{_∙_, ap}
 use borrow.Author.Needs.{needs}
-use Rattle.capi.specs.Interface.{changed}
+use Rattle.answers.specs.Interface.{changed}
 use Rattle.capi.proofs.eko_save.Statement.{statement}
 use Rattle.capi.proofs.eko_save.Tie as tie
 

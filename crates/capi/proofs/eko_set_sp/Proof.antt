@@ -1,7 +1,7 @@
 -- `capi::eko_set_sp` meets its contract. Assumes nothing.
 use mathlib.Core.Path.{_∙_, ap}
 use borrow.Author.Needs.{needs}
-use Rattle.capi.specs.Interface.{file}
+use Rattle.answers.specs.Interface.{file}
 use Rattle.capi.proofs.eko_set_sp.Statement.{statement}
 use Rattle.capi.proofs.eko_set_sp.Tie as tie
 

@@ -1,7 +1,7 @@
 -- `capi::eko_slot` meets its contract. Assumes nothing.
 use mathlib.Core.Path.{_∙_, ap}
 use borrow.Author.Needs.{needs}
-use Rattle.capi.specs.Interface.{slot}
+use Rattle.answers.specs.Interface.{slot}
 use Rattle.capi.proofs.eko_slot.Statement.{statement}
 use Rattle.capi.proofs.eko_slot.Tie as tie
 

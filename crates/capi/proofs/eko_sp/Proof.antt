@@ -1,7 +1,7 @@
 -- `capi::eko_sp` meets its contract. Assumes nothing.
 use mathlib.Core.Path.{_∙_, ap}
 use borrow.Author.Needs.{needs}
-use Rattle.capi.specs.Interface.{number}
+use Rattle.answers.specs.Interface.{number}
 use Rattle.capi.proofs.eko_sp.Statement.{statement}
 use Rattle.capi.proofs.eko_sp.Tie as tie
 

@@ -1,7 +1,7 @@
 -- `capi::eko_step` meets its contract. Assumes nothing.
 use mathlib.Core.Path.{_∙_, ap}
 use borrow.Author.Needs.{needs}
-use Rattle.capi.specs.Interface.{file}
+use Rattle.answers.specs.Interface.{file}
 use Rattle.capi.proofs.eko_step.Statement.{statement}
 use Rattle.capi.proofs.eko_step.Tie as tie
 

@@ -1,5 +1,4 @@
 -- `personality::cleaned` meets its contract. Assumes nothing.
-use mathlib.Core.Path.{refl, sym, _∙_, ap}
 use borrow.Author.Tests.{eq-eqb, ne-eqb}
 use Rattle.personality.specs.Reason.{cleaned}
 use borrow.Author.Needs.{needs}

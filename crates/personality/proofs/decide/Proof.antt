@@ -1,5 +1,5 @@
 -- `personality::decide` meets its contract. Assumes nothing.
-use mathlib.Core.Path.{refl, sym, _∙_, ap}
+use mathlib.Core.Path.{_∙_, ap}
 use Prim.Native.Nat.{ℕ}
 use Rattle.failure.specs.Outcome.{Outcome}
 use Rattle.mem.specs.Memory.{lent}

@@ -1,5 +1,4 @@
 -- `personality::installed` meets its contract. Assumes nothing.
-use mathlib.Core.Path.{refl, sym, _∙_, ap}
 use Rattle.personality.proofs.Reasons.{install-decided}
 use borrow.Author.Needs.{needs}
 use Rattle.personality.proofs.installed.Statement.{statement}

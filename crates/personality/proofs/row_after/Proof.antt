@@ -1,5 +1,4 @@
 -- `personality::row_after` meets its contract. Assumes nothing.
-use mathlib.Core.Path.{refl, sym, _∙_, ap}
 use Rattle.personality.proofs.Ran.{ran-done, ran-refused}
 use Rattle.personality.proofs.Reasons.{after-run, after-refused}
 use borrow.Author.Needs.{needs}

@@ -1,5 +1,5 @@
 -- `personality::row_of` meets its contract. Assumes nothing.
-use mathlib.Core.Path.{refl, sym, _∙_, ap}
+use mathlib.Core.Path.{sym, _∙_}
 use Rattle.personality.proofs.Reasons.{row-above, row-none, row-1, row-2}
 use borrow.Author.Needs.{needs}
 use Rattle.personality.proofs.row_of.Statement.{statement}

@@ -1,7 +1,6 @@
 -- `personality::rowless` meets its contract. Assumes nothing.
 use borrow.Author.Tests.{eq-eqb, ne-eqb}
 use Rattle.personality.specs.Reason.{rowless}
-use borrow.Author.Needs.{needs}
 use Rattle.personality.proofs.rowless.Statement.{statement}
 use Rattle.personality.proofs.rowless.Tie as tie
 

@@ -1,7 +1,6 @@
 -- `personality::searched` meets its contract. Assumes nothing.
 use borrow.Author.Tests.{eq-eqb, ne-eqb}
 use Rattle.personality.specs.Reason.{searchedCode}
-use borrow.Author.Needs.{needs}
 use Rattle.personality.proofs.searched.Statement.{statement}
 use Rattle.personality.proofs.searched.Tie as tie
 

@@ -1,11 +1,11 @@
--- `capi::to_read` meets its contract. Assumes nothing.
+-- `answers::to_read` meets its contract. Assumes nothing.
 use mathlib.Core.Path.{sym, ap}
 use borrow.Author.Needs.{needs}
 use Rattle.leb.specs.declared.Number.{Number}
 use Rattle.leb.specs.Reader.{told}
-use Rattle.capi.specs.Interface.{read}
-use Rattle.capi.proofs.to_read.Statement.{statement}
-use Rattle.capi.proofs.to_read.Tie as tie
+use Rattle.answers.specs.Interface.{read}
+use Rattle.answers.proofs.to_read.Statement.{statement}
+use Rattle.answers.proofs.to_read.Tie as tie
 
 enum-known-n : tie.Need-enum-known-n
 enum-known-n c = search needs

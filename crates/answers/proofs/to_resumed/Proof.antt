@@ -1,9 +1,9 @@
--- `capi::to_resumed` meets its contract. Assumes nothing.
+-- `answers::to_resumed` meets its contract. Assumes nothing.
 use mathlib.Core.Path.{sym, ap}
 use borrow.Author.Needs.{needs}
-use Rattle.capi.specs.Interface.{resumedBy}
-use Rattle.capi.proofs.to_resumed.Statement.{statement}
-use Rattle.capi.proofs.to_resumed.Tie as tie
+use Rattle.answers.specs.Interface.{resumedBy}
+use Rattle.answers.proofs.to_resumed.Statement.{statement}
+use Rattle.answers.proofs.to_resumed.Tie as tie
 
 enum-known-answer : tie.Need-enum-known-answer
 enum-known-answer c = search needs

@@ -1,9 +1,9 @@
--- `capi::to_decided` meets its contract. Assumes nothing.
+-- `answers::to_decided` meets its contract. Assumes nothing.
 use mathlib.Core.Path.{sym, ap}
 use borrow.Author.Needs.{needs}
-use Rattle.capi.specs.Interface.{decidedBy}
-use Rattle.capi.proofs.to_decided.Statement.{statement}
-use Rattle.capi.proofs.to_decided.Tie as tie
+use Rattle.answers.specs.Interface.{decidedBy}
+use Rattle.answers.proofs.to_decided.Statement.{statement}
+use Rattle.answers.proofs.to_decided.Tie as tie
 
 enum-known-code : tie.Need-enum-known-code
 enum-known-code c = search needs

@@ -1,11 +1,11 @@
--- `capi::to_number` meets its contract. Assumes nothing.
+-- `answers::to_number` meets its contract. Assumes nothing.
 use mathlib.Core.Path.{sym, ap}
 use borrow.Author.Needs.{needs}
 use Rattle.arch.specs.declared.Value.{Value}
 use Rattle.arch.specs.Answers.{valued}
-use Rattle.capi.specs.Interface.{number}
-use Rattle.capi.proofs.to_number.Statement.{statement}
-use Rattle.capi.proofs.to_number.Tie as tie
+use Rattle.answers.specs.Interface.{number}
+use Rattle.answers.proofs.to_number.Statement.{statement}
+use Rattle.answers.proofs.to_number.Tie as tie
 
 enum-known-v : tie.Need-enum-known-v
 enum-known-v c = search needs

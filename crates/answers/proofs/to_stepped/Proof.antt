@@ -1,11 +1,11 @@
--- `capi::to_stepped` meets its contract. Assumes nothing.
+-- `answers::to_stepped` meets its contract. Assumes nothing.
 use mathlib.Core.Path.{_≡_, sym, _∙_, ap}
 use borrow.Author.Needs.{needs}
 use Rattle.unwind.specs.declared.Stepped.{Stepped}
 use Rattle.unwind.specs.declared.Walked.{Walked}
-use Rattle.capi.specs.Interface.{steppedBy}
-use Rattle.capi.proofs.to_stepped.Statement.{statement}
-use Rattle.capi.proofs.to_stepped.Tie as tie
+use Rattle.answers.specs.Interface.{steppedBy}
+use Rattle.answers.proofs.to_stepped.Statement.{statement}
+use Rattle.answers.proofs.to_stepped.Tie as tie
 
 by : (s : Stepped) {a b : Walked} → a ≡ b →
     steppedBy (s .number) (s .interrupted) (s .regs) b ≡ steppedBy (s .number) (s .interrupted) (s .regs) a

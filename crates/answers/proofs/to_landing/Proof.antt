@@ -1,11 +1,11 @@
--- `capi::to_landing` meets its contract. Assumes nothing.
+-- `answers::to_landing` meets its contract. Assumes nothing.
 use mathlib.Core.Path.{sym, ap}
 use borrow.Author.Needs.{needs}
 use Rattle.rows.specs.declared.Row.{Row}
 use Rattle.rows.specs.Row.{found}
-use Rattle.capi.specs.Interface.{landing}
-use Rattle.capi.proofs.to_landing.Statement.{statement}
-use Rattle.capi.proofs.to_landing.Tie as tie
+use Rattle.answers.specs.Interface.{landing}
+use Rattle.answers.proofs.to_landing.Statement.{statement}
+use Rattle.answers.proofs.to_landing.Tie as tie
 
 enum-known-row : tie.Need-enum-known-row
 enum-known-row c = search needs

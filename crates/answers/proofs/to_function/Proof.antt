@@ -1,11 +1,11 @@
--- `capi::to_function` meets its contract. Assumes nothing.
+-- `answers::to_function` meets its contract. Assumes nothing.
 use mathlib.Core.Path.{sym, _∙_, ap}
 use borrow.Author.Needs.{needs}
 use Rattle.lookup.specs.declared.Lookup.{Lookup}
 use Rattle.lookup.specs.Lookup.{looked}
-use Rattle.capi.specs.Interface.{function}
-use Rattle.capi.proofs.to_function.Statement.{statement}
-use Rattle.capi.proofs.to_function.Tie as tie
+use Rattle.answers.specs.Interface.{function}
+use Rattle.answers.proofs.to_function.Statement.{statement}
+use Rattle.answers.proofs.to_function.Tie as tie
 
 enum-known-l : tie.Need-enum-known-l
 enum-known-l c = search needs

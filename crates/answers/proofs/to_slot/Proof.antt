@@ -1,11 +1,11 @@
--- `capi::to_slot` meets its contract. Assumes nothing.
+-- `answers::to_slot` meets its contract. Assumes nothing.
 use mathlib.Core.Path.{sym, ap}
 use borrow.Author.Needs.{needs}
 use Rattle.state.specs.declared.Slot.{Slot}
 use Rattle.state.specs.Answers.{slotted}
-use Rattle.capi.specs.Interface.{slot}
-use Rattle.capi.proofs.to_slot.Statement.{statement}
-use Rattle.capi.proofs.to_slot.Tie as tie
+use Rattle.answers.specs.Interface.{slot}
+use Rattle.answers.proofs.to_slot.Statement.{statement}
+use Rattle.answers.proofs.to_slot.Tie as tie
 
 enum-known-s : tie.Need-enum-known-s
 enum-known-s c = search needs

@@ -1,7 +1,7 @@
--- `capi::to_ended` meets its contract. Assumes nothing.
+-- `answers::to_ended` meets its contract. Assumes nothing.
 use borrow.Author.Needs.{needs}
-use Rattle.capi.proofs.to_ended.Statement.{statement}
-use Rattle.capi.proofs.to_ended.Tie as tie
+use Rattle.answers.proofs.to_ended.Statement.{statement}
+use Rattle.answers.proofs.to_ended.Tie as tie
 
 run-status-requires : tie.Need-run-status-requires
 run-status-requires c κs = search needs

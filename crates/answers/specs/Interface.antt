@@ -39,17 +39,17 @@ use Rattle.model.specs.Unwinding.{frameOf}
 use Rattle.leb.specs.Reader as Reader
 use Rattle.rows.specs.Row as Row
 use Rattle.rows.specs.Row.{Pad}
-use Rattle.capi.specs.declared.Number.{Number}
-use Rattle.capi.specs.declared.File.{File}
-use Rattle.capi.specs.declared.Function.{Function}
-use Rattle.capi.specs.declared.Read.{Read}
-use Rattle.capi.specs.declared.Changed.{Changed}
-use Rattle.capi.specs.declared.Ended.{Ended}
-use Rattle.capi.specs.declared.Landing.{Landing}
-use Rattle.capi.specs.declared.Decided.{Decided}
-use Rattle.capi.specs.declared.Stepped.{Stepped}
-use Rattle.capi.specs.declared.Raised.{Raised}
-use Rattle.capi.specs.declared.Resumed.{Resumed}
+use Rattle.answers.specs.declared.Number.{Number}
+use Rattle.answers.specs.declared.File.{File}
+use Rattle.answers.specs.declared.Function.{Function}
+use Rattle.answers.specs.declared.Read.{Read}
+use Rattle.answers.specs.declared.Changed.{Changed}
+use Rattle.answers.specs.declared.Ended.{Ended}
+use Rattle.answers.specs.declared.Landing.{Landing}
+use Rattle.answers.specs.declared.Decided.{Decided}
+use Rattle.answers.specs.declared.Stepped.{Stepped}
+use Rattle.answers.specs.declared.Raised.{Raised}
+use Rattle.answers.specs.declared.Resumed.{Resumed}
 
 -- a number
 abbrev pub number : Outcome ℕ → Number

@@ -1,7 +1,7 @@
--- `capi::to_file` meets its contract. Assumes nothing.
+-- `answers::to_file` meets its contract. Assumes nothing.
 use borrow.Author.Needs.{needs}
-use Rattle.capi.proofs.to_file.Statement.{statement}
-use Rattle.capi.proofs.to_file.Tie as tie
+use Rattle.answers.proofs.to_file.Statement.{statement}
+use Rattle.answers.proofs.to_file.Tie as tie
 
 file-status-requires : tie.Need-file-status-requires
 file-status-requires c κs = search needs

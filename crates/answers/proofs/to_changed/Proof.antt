@@ -1,7 +1,7 @@
--- `capi::to_changed` meets its contract. Assumes nothing.
+-- `answers::to_changed` meets its contract. Assumes nothing.
 use borrow.Author.Needs.{needs}
-use Rattle.capi.proofs.to_changed.Statement.{statement}
-use Rattle.capi.proofs.to_changed.Tie as tie
+use Rattle.answers.proofs.to_changed.Statement.{statement}
+use Rattle.answers.proofs.to_changed.Tie as tie
 
 change-status-requires : tie.Need-change-status-requires
 change-status-requires c κs = search needs

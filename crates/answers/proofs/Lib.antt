@@ -1,0 +1,1 @@
+-- The proofs of the answers, which need no laws of their own.

@@ -11,6 +11,7 @@ use Rattle.arch.specs.declared.Column.{Column}
 use Rattle.arch.specs.declared.Column.the-variants.{At, Unknown}
 use Rattle.arch.specs.declared.Value.{Value}
 use Rattle.arch.specs.declared.Value.the-variants as value
+use Rattle.arch.specs.declared.Status.{Status}
 use Rattle.arch.specs.declared.Status.the-variants as status
 use Rattle.arch.specs.declared.Regs.{Regs}
 use Rattle.arch.specs.declared.Next.{Next}

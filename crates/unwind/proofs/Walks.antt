@@ -15,7 +15,7 @@ use Rattle.failure.specs.Failure.{StackNotAdvancing, TooManyFrames}
 use Rattle.mem.specs.Memory.{Memory}
 use Rattle.arch.specs.Arch.{Arch, numbers}
 use Rattle.arch.specs.File.{sp, pc}
-use Rattle.arch.specs.Answers.{next}
+use Rattle.arch.specs.Answers.{next, InPlace}
 use Rattle.arch.specs.declared.Regs.{Regs}
 use Rattle.arch.specs.declared.Next.{Next}
 use Rattle.arch.specs.declared.Status.{Status}
@@ -35,6 +35,11 @@ use Rattle.unwind.specs.Turns.{fileTold, callerByRun, passed, functionOf
 pub next-told : (regs : Regs) (o : Outcome (List ℕ)) (r : Next) → r ≡ next regs o → fileTold (r .status) (r .regs .r) ≡ o
 next-told regs (Outcome.Refused n) r e = ap (λ (x : Next). fileTold (x .status) (x .regs .r)) e
 next-told regs (Answer file) r e = ap (λ (x : Next). fileTold (x .status) (x .regs .r)) e
+
+-- so does a file in place
+pub in-place-told : (entry : List ℕ) (o : Outcome (List ℕ)) (s : Status) (exit : List ℕ) → InPlace entry o s exit → fileTold s exit ≡ o
+in-place-told entry (Outcome.Refused n) s exit e = ap (λ (x : Status). fileTold x exit) (e .status)
+in-place-told entry (Answer file) s exit e = ap (λ (x : Status). fileTold x exit) (e .status) ∙ ap Answer (e .file)
 
 -- a status and the file beside it tell the outcome
 pub told : (o : Outcome (List ℕ)) (s t : Status) (file : List ℕ) → fileTold s file ≡ o → s ≡ t → o ≡ fileTold t file

@@ -32,7 +32,7 @@ use failure::HANDLER_FRAME_MISSED;
 use failure::STACK_NOT_ADVANCING;
 use failure::TOO_MANY_FRAMES;
 use frame::apply_state;
-use frame::step_frame;
+use frame::step_into;
 use lookup::Lookup;
 use lookup::Record;
 use lookup::VERSION2;
@@ -225,8 +225,7 @@ fn caller_into<'a>(
         ⌝ }
 {
     if record.version != VERSION2 {
-        let r = *file;
-        let next = step_frame(
+        return step_into(
             section,
             section_base,
             stack,
@@ -234,12 +233,8 @@ fn caller_into<'a>(
             arch,
             record.frame,
             interrupted,
-            Regs { r },
+            file,
         );
-        let regs = next.regs;
-        let caller = regs.r;
-        *file = caller;
-        return next.status;
     }
     caller_by_run(
         section,

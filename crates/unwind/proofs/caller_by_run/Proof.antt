@@ -5,8 +5,6 @@ use Rattle.unwind.proofs.Walks.{next-told, by-run, by-run-refused}
 use borrow.Author.Needs.{needs}
 use Rattle.unwind.proofs.caller_by_run.Statement.{statement}
 use Rattle.unwind.proofs.caller_by_run.Tie as tie
-use Rattle.frame.proofs.apply_state.Reads as apply-state-reads
-use Rattle.program.proofs.run_program.Reads as run-program-reads
 
 run-program-requires : tie.Need-run-program-requires
 run-program-requires c κs = search needs

@@ -1,19 +1,16 @@
 -- `unwind::caller_into` meets its contract. Assumes nothing.
 use mathlib.Core.Path.{_∙_}
-use Rattle.unwind.proofs.Walks.{next-told, caller-1, caller-2}
+use Rattle.unwind.proofs.Walks.{in-place-told, caller-1, caller-2}
 use borrow.Author.Needs.{needs}
 use Rattle.unwind.proofs.caller_into.Statement.{statement}
 use Rattle.unwind.proofs.caller_into.Tie as tie
-use Rattle.frame.proofs.step_frame.Reads as step-frame-reads
-use Rattle.unwind.proofs.caller_by_run.Reads as caller-by-run-reads
-use Rattle.unwind.proofs.offset_from.Reads as offset-from-reads
 
-step-frame-requires : tie.Need-step-frame-requires
-step-frame-requires c κs = search needs
+step-into-requires : tie.Need-step-into-requires
+step-into-requires c κs = search needs
 
 returns : tie.Need-returns
 returns c =
-    next-told _ _ _ (c .before .before .step-frame .ensures) ∙ caller-1 _ _ _ _ _ _ (c .before .before .before .before .if1 .taken)
+    in-place-told _ _ _ _ (c .step-into .ensures) ∙ caller-1 _ _ _ _ _ _ (c .before .before .if1 .taken)
 
 offset-from-requires : tie.Need-offset-from-requires
 offset-from-requires c κs = search needs
@@ -28,4 +25,4 @@ returns-2 c =
 pub caller-into-spec : {M : Type 1} → statement M
 caller-into-spec =
     tie.close
-    (tie.spec step-frame-requires returns offset-from-requires caller-by-run-requires returns-2)
+    (tie.spec step-into-requires returns offset-from-requires caller-by-run-requires returns-2)

@@ -9,7 +9,6 @@ use Rattle.unwind.proofs.CleanupPhase.{UnderWay, apart-on, apart-instal
 use borrow.Author.Needs.{needs}
 use Rattle.unwind.proofs.clean.Statement.{statement}
 use Rattle.unwind.proofs.clean.Tie as tie
-use Rattle.arch.proofs.sp_column.Reads as sp-column-reads
 
 abbrev Inv-loop : tie.InvT-loop
 Inv-loop section section-base stack stack-base arch unwinding k file₀ number₀ interrupted₀ file number interrupted =

@@ -6,8 +6,6 @@ use Rattle.unwind.proofs.CleanupPhase.{below-any}
 use borrow.Author.Needs.{needs}
 use Rattle.unwind.proofs.clean_turn.Statement.{statement}
 use Rattle.unwind.proofs.clean_turn.Tie as tie
-use Rattle.unwind.proofs.at_chosen.Reads as at-chosen-reads
-use Rattle.unwind.proofs.below.Reads as below-reads
 
 enum-told : tie.Need-enum-told
 enum-told c = search needs

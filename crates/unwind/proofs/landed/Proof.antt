@@ -4,9 +4,6 @@ use Rattle.unwind.proofs.CleanupPhase.{lands, lands-refused}
 use borrow.Author.Needs.{needs}
 use Rattle.unwind.proofs.landed.Statement.{statement}
 use Rattle.unwind.proofs.landed.Tie as tie
-use Rattle.personality.proofs.installed.Reads as installed-reads
-use Rattle.unwind.proofs.going_on.Reads as going-on-reads
-use Rattle.unwind.proofs.kept.Reads as kept-reads
 
 installed-requires : tie.Need-installed-requires
 installed-requires c κs = search needs

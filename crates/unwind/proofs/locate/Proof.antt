@@ -3,8 +3,6 @@ use Rattle.unwind.proofs.Walks.{record-end, record-29, record-looked}
 use borrow.Author.Needs.{needs}
 use Rattle.unwind.proofs.locate.Statement.{statement}
 use Rattle.unwind.proofs.locate.Tie as tie
-use Rattle.lookup.proofs.lookup_part.Reads as lookup-part-reads
-use Rattle.unwind.proofs.looked_up.Reads as looked-up-reads
 
 returns : tie.Need-returns
 returns c =

@@ -5,8 +5,6 @@ use Rattle.unwind.proofs.Meeting.{seen-located}
 use borrow.Author.Needs.{needs}
 use Rattle.unwind.proofs.meet.Statement.{statement}
 use Rattle.unwind.proofs.meet.Tie as tie
-use Rattle.unwind.proofs.locate.Reads as locate-reads
-use Rattle.unwind.proofs.meet_at.Reads as meet-at-reads
 
 element-copy-out-pc : tie.Need-element-copy-out-pc
 element-copy-out-pc c = search needs

@@ -7,9 +7,6 @@ use Rattle.unwind.proofs.Meeting.{passed-told, meets-refused, meets-row
 use borrow.Author.Needs.{needs}
 use Rattle.unwind.proofs.meet_at.Statement.{statement}
 use Rattle.unwind.proofs.meet_at.Tie as tie
-use Rattle.personality.proofs.row_of.Reads as row-of-reads
-use Rattle.unwind.proofs.looked_up.Reads as looked-up-reads
-use Rattle.unwind.proofs.past.Reads as past-reads
 
 looked-up-requires : tie.Need-looked-up-requires
 looked-up-requires c κs =

@@ -3,9 +3,6 @@ use Rattle.unwind.proofs.Walks.{told, past-refused, past-20, past-on}
 use borrow.Author.Needs.{needs}
 use Rattle.unwind.proofs.past.Statement.{statement}
 use Rattle.unwind.proofs.past.Tie as tie
-use Rattle.arch.proofs.sp_column.Reads as sp-column-reads
-use Rattle.unwind.proofs.caller_into.Reads as caller-into-reads
-use Rattle.unwind.proofs.not_advancing.Reads as not-advancing-reads
 
 sp-column-requires : tie.Need-sp-column-requires
 sp-column-requires c κs = search needs

@@ -8,9 +8,6 @@ use Rattle.unwind.proofs.Searching.{Searching, searching-begin, searchi
 use borrow.Author.Needs.{needs}
 use Rattle.unwind.proofs.search.Statement.{statement}
 use Rattle.unwind.proofs.search.Tie as tie
-use Rattle.arch.proofs.sp_column.Reads as sp-column-reads
-use Rattle.unwind.proofs.meet.Reads as meet-reads
-use Rattle.unwind.proofs.search_turn.Reads as search-turn-reads
 
 abbrev Inv-loop : tie.InvT-loop
 Inv-loop section section-base stack stack-base arch interrupted k number₀ first₀ file₀ number first file =

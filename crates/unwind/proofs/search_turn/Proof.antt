@@ -3,7 +3,6 @@ use Rattle.unwind.proofs.Searching.{turn-ended, turn-rowless, turn-row,
 use borrow.Author.Needs.{needs}
 use Rattle.unwind.proofs.search_turn.Statement.{statement}
 use Rattle.unwind.proofs.search_turn.Tie as tie
-use Rattle.unwind.proofs.search_action.Reads as search-action-reads
 
 enum-told : tie.Need-enum-told
 enum-told c = search needs

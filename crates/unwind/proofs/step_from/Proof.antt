@@ -10,10 +10,6 @@ use Rattle.unwind.proofs.Meeting.{step-located, passed-told, stays, sta
 use borrow.Author.Needs.{needs}
 use Rattle.unwind.proofs.step_from.Statement.{statement}
 use Rattle.unwind.proofs.step_from.Tie as tie
-use Rattle.unwind.proofs.locate.Reads as locate-reads
-use Rattle.unwind.proofs.looked_up.Reads as looked-up-reads
-use Rattle.unwind.proofs.past.Reads as past-reads
-use Rattle.unwind.proofs.stayed.Reads as stayed-reads
 
 array-read-pc : tie.Need-array-read-pc
 array-read-pc c = search needs

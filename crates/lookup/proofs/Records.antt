@@ -11,7 +11,7 @@ use borrow.Author.Tests.{eq-eqb, ne-eqb, le-leb, lt-leb, lt-ltb, le-ltb, leb-tru
 use Rattle.mem.specs.Wrapping.{sum, signed32}
 use Rattle.lookup.specs.Field.{word}
 use Rattle.lookup.specs.Record.{startAt, endAt, addressOf, offsetOf, handlersOf, recordAt, recordAt2, placeOf, recordIn, recordOf, holds, badRecord}
-use Rattle.lookup.specs.Steps.{Inside, Stands, Stand}
+use Rattle.lookup.specs.Steps.{Inside, Stands, SomeStands}
 use Rattle.mem.proofs.Tests.{both}
 use Rattle.lookup.specs.declared.Chunk.{Chunk}
 use Rattle.lookup.specs.declared.Record.{Record}
@@ -47,7 +47,7 @@ module _ (c : Chunk) where
   last-stands h = record { below = omega arith; place = refl }
 
   module _ (bytes : List ℕ) (inside : Inside bytes c) (k : ℕ) where
-    pub stand-room : Stand c k → k + c .stride ≤ length bytes
+    pub stand-room : SomeStands c k → k + c .stride ≤ length bytes
     stand-room s = omega (arith, record-room bytes c (s .index) inside (s .stands .below), s .stands .place)
 
     module _ (i : ℕ) (s : Stands c i k) where

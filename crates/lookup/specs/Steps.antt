@@ -31,7 +31,7 @@ pub record Stands (c : Chunk) (i k : ℕ) : Type 0 where
   pub place : k ≡ placeOf c i
 
 -- some record of a chunk does
-pub record Stand (c : Chunk) (k : ℕ) : Type 0 where
+pub record SomeStands (c : Chunk) (k : ℕ) : Type 0 where
   pub index : ℕ
   pub stands : Stands c index k
 
@@ -51,7 +51,7 @@ searched bytes base c Unsorted = Refused EkoUnsorted
 
 -- a record that is held is one of the chunk
 abbrev pub HeldIn : Chunk → Searched → Type 0
-HeldIn c (Held k) = Stand c k
+HeldIn c (Held k) = SomeStands c k
 HeldIn c NotHeld = Unit
 HeldIn c Unsorted = Unit
 
@@ -66,7 +66,7 @@ placed bytes base place.EkoUnsorted = Refused EkoUnsorted
 
 -- a place is that of a record of a chunk in the part
 abbrev pub Lies : List ℕ → Place → Type 0
-Lies bytes (place.At k at) = Inside bytes (chunkAt bytes k) × Stand (chunkAt bytes k) at
+Lies bytes (place.At k at) = Inside bytes (chunkAt bytes k) × SomeStands (chunkAt bytes k) at
 Lies bytes place.None = Unit
 Lies bytes place.BadEkoHeader = Unit
 Lies bytes place.BadEkoRecord = Unit

@@ -10,7 +10,7 @@ ghost use Rattle.mem.specs.Wrapping.{signed32};
 ghost use Rattle.lookup.specs.Field.{word};
 ghost use Rattle.lookup.specs.Header as Header;
 ghost use Rattle.lookup.specs.Record.{startAt, endAt, addressOf, handlersOf, recordAt, recordAt2, recordIn, recordOf, badRecord};
-ghost use Rattle.lookup.specs.Steps.{Inside, Stands, Stand, Meets, halved, searched, HeldIn, placed, Lies};
+ghost use Rattle.lookup.specs.Steps.{Inside, Stands, SomeStands, Meets, halved, searched, HeldIn, placed, Lies};
 ghost use Rattle.lookup.specs.Search as Search;
 ghost use Rattle.lookup.specs.Lookup.{looked, lookup, lookupArch, searchIn, answerOr, ChunkOf};
 use mem::opening;
@@ -281,7 +281,7 @@ fn record_at2(part: &[u8], base: usize, chunk: usize, limit: usize, k: usize) ->
 
 // The record at offset k of a chunk.
 fn rec(part: &[u8], base: usize, c: Chunk, k: usize) -> Record
-    requires { ⌜ Inside (now part) c × Stand c k ⌝ }
+    requires { ⌜ Inside (now part) c × SomeStands c k ⌝ }
     ensures { λ r. ⌜ r ≡ recordIn (now (part .entry)) base c k ⌝ }
 {
     let chunk = wrapping::add(base, c.offset);
@@ -315,7 +315,7 @@ fn halve(part: &[u8], base: usize, c: Chunk, pc: usize) -> usize
 
 // The left neighbour of the record at offset k ends above its start.
 fn left_meets(part: &[u8], base: usize, c: Chunk, k: usize, start: usize) -> bool
-    requires { ⌜ Inside (now part) c × Stand c k × (start ≡ startAt (now part) base k) ⌝ }
+    requires { ⌜ Inside (now part) c × SomeStands c k × (start ≡ startAt (now part) base k) ⌝ }
     ensures { λ r. ⌜ Meets c k (Search.leftMeets (recordOf (now (part .entry)) base c)) r ⌝ }
 {
     if k == c.offset + HEADER {
@@ -326,7 +326,7 @@ fn left_meets(part: &[u8], base: usize, c: Chunk, k: usize, start: usize) -> boo
 
 // The right neighbour of the record at offset k starts below its end.
 fn right_meets(part: &[u8], base: usize, c: Chunk, k: usize, end: usize) -> bool
-    requires { ⌜ Inside (now part) c × Stand c k × (end ≡ endAt (now part) base k) ⌝ }
+    requires { ⌜ Inside (now part) c × SomeStands c k × (end ≡ endAt (now part) base k) ⌝ }
     ensures { λ r. ⌜ Meets c k (Search.rightMeets (recordOf (now (part .entry)) base c) (c .count)) r ⌝ }
 {
     let next = k + c.stride;
@@ -401,7 +401,7 @@ fn bad_record(r: Record) -> bool
 
 // The place of the record at offset k of a chunk, if it passes the test for 18.
 fn place_of(part: &[u8], base: usize, c: Chunk, k: usize) -> Place
-    requires { ⌜ Inside (now part) c × Stand c k × (c ≡ Header.chunkAt (now part) (c .offset)) ⌝ }
+    requires { ⌜ Inside (now part) c × SomeStands c k × (c ≡ Header.chunkAt (now part) (c .offset)) ⌝ }
     ensures { λ r. ⌜
         (placed (now (part .entry)) base r ≡ answerOr c (Answer none) (some (recordIn (now (part .entry)) base c k)))
         × Lies (now (part .entry)) r

@@ -24,7 +24,7 @@ use Rattle.rows.proofs.Section.{handler-same}
 use Rattle.rows.proofs.Halving.{Left, begin, turn-found, turn-above, turn-below}
 
 -- the number in some bytes is the first one and 256 times the number in the others
-word-more : (b : List ℕ) (k j n : ℕ) → j ≡ k + 1 → k < length b →
+pub word-more : (b : List ℕ) (k j n : ℕ) → j ≡ k + 1 → k < length b →
     littleEndian (take (suc n) (drop k b)) ≡ getD b k 0 + 256 * littleEndian (take n (drop j b))
 word-more b k j n e h = rw (e, add-one, drop-cons b k 0)
 

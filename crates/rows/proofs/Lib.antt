@@ -3,6 +3,7 @@ pub mod Entries
 pub mod Halving
 pub mod Held
 pub mod Rows2
+pub mod Short
 pub mod Rising
 pub mod Prefix
 pub mod Section

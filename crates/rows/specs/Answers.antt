@@ -1,14 +1,20 @@
 -- Document 01's number and values for each case of the answers between this crate's functions.
 use mathlib.Core.Bool.{Bool, true, false}
-use Prim.Native.Nat.{ℕ, _≤_}
+use mathlib.Core.Path.{_≡_}
+use Prim.Native.Nat.{ℕ, _/_, _%_, _^_, _≤_}
+use lib.Dec.{eqb}
+use Rattle.failure.specs.Choice.{if_then_else_}
 use Rattle.failure.specs.Outcome.{Outcome, Refused, Answer}
 use Rattle.failure.specs.Failure.{OutsideMemory}
 use Rattle.mem.specs.Memory.{Memory}
-use Rattle.rows.specs.Row.{Found, found}
+use Rattle.leb.specs.Reader.{Read}
+use Rattle.rows.specs.Row.{Found, None, found, checked}
 use Rattle.rows.specs.Handler.{Entry, row}
 use Rattle.rows.specs.Handler2.{rowsFrom}
 use Rattle.rows.specs.declared.handler2.Step.{Step}
 use Rattle.rows.specs.declared.handler2.Step.the-variants.{Ends, On}
+use Rattle.rows.specs.declared.handler2.Short.{Short}
+use Rattle.rows.specs.declared.handler2.Short.the-variants as short-case
 use Rattle.rows.specs.declared.handler.Entry.the-variants as entry-case
 use Rattle.rows.specs.declared.handler.Order.the-variants as order-case
 use Rattle.rows.specs.declared.handler.Entry as code-entry
@@ -34,3 +40,16 @@ after m limit ret left (On pos at) = rowsFrom left m limit pos at ret
 abbrev pub Within : ℕ → Step → Type 0
 Within ret (Ends row) = Unit
 Within ret (On pos at) = at ≤ ret
+
+-- a short number is the one there; a long one says nothing
+abbrev pub Says : Short → Outcome Read → Type 0
+Says (short-case.Is v next) o = Answer (record { value = v; next = next }) ≡ o
+Says short-case.Long o = Unit
+
+-- the row of a word, none for 2^32
+abbrev pub worded : ℕ → Outcome Found
+worded w = if eqb w (2 ^ 32) then Answer None else checked (w / 4) (w % 4)
+
+-- a word is that of the row; 2^33 says nothing
+abbrev pub Settles : ℕ → Outcome Found → Type 0
+Settles w o = (w ≡ 2 ^ 33 → ⊥) → worded w ≡ o

@@ -1,4 +1,4 @@
--- A version 1 table that lies whole in the section.
+-- What is read in the section alone; a version 1 table that lies whole in it.
 use mathlib.Core.Path.{_≡_}
 use mathlib.Core.List.{List, [], _∷_}
 use Prim.Native.Nat.{ℕ, _+_, _-_, _*_, _^_, _≤_, _<_}
@@ -11,9 +11,13 @@ use Rattle.mem.specs.Word.{load}
 use Rattle.rows.specs.Row.{Found}
 use Rattle.rows.specs.Handler.{entryAt, judged}
 
+-- the section, and the rest of what is lent
+abbrev pub first : List ℕ → ℕ → Memory → Memory
+first section base rest = record { base = base; bytes = section } ∷ rest
+
 -- the section alone
 abbrev pub alone : List ℕ → ℕ → Memory
-alone section base = record { base = base; bytes = section } ∷ []
+alone section base = first section base []
 
 -- a table of so many rows lies whole in the section, which ends at most at 2^64
 pub record Whole (section : List ℕ) (base table count : ℕ) : Type 0 where

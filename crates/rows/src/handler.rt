@@ -12,6 +12,7 @@ ghost use Rattle.rows.specs.Answers.{entry, breaks};
 ghost use Rattle.rows.specs.Held.{alone, Whole, Held, judgedAt, lesser, kept};
 use crate::Row;
 use crate::checked;
+use crate::wide;
 use failure::BAD_OPENING;
 use failure::EKO_AMBIGUOUS_CALL_SITE;
 use failure::OUTSIDE_MEMORY;
@@ -215,13 +216,6 @@ fn handler_anywhere<'a>(
 
 // A table that lies whole in the section: no read there is refused. What cannot be foretold is computed and not branched on:
 // which half the row is in, and whether it has neighbours.
-
-// A byte as an address-sized number.
-fn wide(x: u8) -> usize
-    ensures { λ r. ⌜ (r ≡ x) × (r < 256) ⌝ }
-{
-    x as usize
-}
 
 // The u32 at an address in the section.
 fn u32_in(section: &[u8], base: usize, a: usize) -> usize

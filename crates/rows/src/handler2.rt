@@ -1,13 +1,16 @@
 // Version 2 row tables: ps-unwind's `handler2`.
 ghost use mathlib.Core.Path.{_≡_};
 ghost use Prim.Native.Nat.{suc, _+_, _^_, _<_, _≤_};
-ghost use Rattle.mem.specs.Memory.{lent};
+ghost use lib.ListN.{length};
+ghost use Rattle.mem.specs.Memory.{Memory, lent};
 ghost use Rattle.leb.specs.Reader.{told};
 ghost use Rattle.rows.specs.Row.{found};
 ghost use Rattle.rows.specs.Handler2 as Handler2;
-ghost use Rattle.rows.specs.Answers.{after, Within};
+ghost use Rattle.rows.specs.Answers.{after, Within, Says, worded, Settles};
+ghost use Rattle.rows.specs.Held.{first, alone};
 use crate::Row;
 use crate::checked;
+use crate::wide;
 use failure::BAD_OPENING;
 use failure::EKO_AMBIGUOUS_CALL_SITE;
 use leb::Number;
@@ -145,7 +148,7 @@ fn next_row<'a>(
 }
 
 // The row of a return offset in the table.
-pub fn handler2_at<'a>(
+fn handler2_anywhere<'a>(
     section: &'a [u8],
     section_base: usize,
     stack: &'a [u8],
@@ -211,7 +214,165 @@ fn among<'a>(
     Row::None
 }
 
-// The same in what is lent.
+// A table in the section, of numbers of at most three bytes; whatever else it holds is left unsettled.
+
+// No row has the return offset.
+const NO_ROW: usize = 0x1_0000_0000;
+
+// The section alone does not say.
+const UNSETTLED: usize = 0x2_0000_0000;
+
+// A number of at most three bytes and the position after it, or another one.
+enum Short {
+    Is(usize, usize),
+    Long,
+}
+
+// The number at a position in the section.
+fn number_in(section: &[u8], base: usize, limit: usize, pos: usize) -> Short
+    requires { ⌜ (base ≤ pos) × (limit ≤ base + length (now section)) ⌝ }
+    ensures { λ r. ⌜ Says r (Handler2.uleb (alone (now (section .entry)) base) limit pos) ⌝ }
+{
+    if limit <= pos {
+        return Short::Long;
+    }
+    let low = wide(section[pos - base]);
+    let second = pos + 1;
+    if low < 128 {
+        return Short::Is(low, second);
+    }
+    if limit <= second {
+        return Short::Long;
+    }
+    let middle = wide(section[second - base]);
+    let third = second + 1;
+    if middle < 128 {
+        return Short::Is(low - 128 + 128 * middle, third);
+    }
+    if limit <= third {
+        return Short::Long;
+    }
+    let high = wide(section[third - base]);
+    if high < 128 {
+        return Short::Is(low - 128 + 128 * (middle - 128 + 128 * high), third + 1);
+    }
+    Short::Long
+}
+
+// A row that was found, with so many more rows at a position: its word.
+fn matched_in(
+    section: &[u8],
+    base: usize,
+    limit: usize,
+    more: usize,
+    pos: usize,
+    word: usize,
+) -> usize
+    requires { ⌜ (base ≤ pos) × (limit ≤ base + length (now section)) × (word < 2 ^ 32) ⌝ }
+    ensures { λ r. ⌜ Settles r (Handler2.matched (alone (now (section .entry)) base) limit more pos word) ⌝ }
+{
+    if more == 0 {
+        return word;
+    }
+    let Short::Is(delta, _) = number_in(section, base, limit, pos) else {
+        return UNSETTLED;
+    };
+    if delta == 0 {
+        return UNSETTLED;
+    }
+    word
+}
+
+// The word of the row of a return offset among so many rows at a position.
+fn among_in(
+    section: &[u8],
+    base: usize,
+    limit: usize,
+    ret: usize,
+    rows: usize,
+    first: usize,
+) -> usize
+    requires { ⌜ (base ≤ first) × (limit ≤ base + length (now section)) × (ret < 2 ^ 32) ⌝ }
+    ensures { λ r. ⌜ Settles r (Handler2.rowsFrom rows (alone (now (section .entry)) base) limit first 0 ret) ⌝ }
+{
+    let mut left = rows;
+    let mut pos = first;
+    let mut at: usize = 0;
+    while 0 < left {
+        left -= 1;
+        let Short::Is(delta, word_at) = number_in(section, base, limit, pos) else {
+            return UNSETTLED;
+        };
+        let Short::Is(word, next) = number_in(section, base, limit, word_at) else {
+            return UNSETTLED;
+        };
+        if delta == 0 {
+            return UNSETTLED;
+        }
+        at += delta;
+        if ret < at {
+            return NO_ROW;
+        }
+        if at == ret {
+            return matched_in(section, base, limit, left, next, word);
+        }
+        pos = next;
+    }
+    NO_ROW
+}
+
+// The word of the row of a return offset in the table, whatever else is lent.
+fn handler2_in(section: &[u8], base: usize, table: usize, limit: usize, ret: usize) -> usize
+    requires { ⌜ ret < 2 ^ 32 ⌝ }
+    ensures { λ r. ⌜
+        ((rest : Memory) → Settles r (Handler2.handler2 (first (now (section .entry)) base rest) table limit ret))
+        ⌝ }
+{
+    if table < base {
+        return UNSETTLED;
+    }
+    if limit < base {
+        return UNSETTLED;
+    }
+    if section.len() < limit - base {
+        return UNSETTLED;
+    }
+    let Short::Is(rows, first) = number_in(section, base, limit, table) else {
+        return UNSETTLED;
+    };
+    among_in(section, base, limit, ret, rows, first)
+}
+
+// The row of a word.
+fn settled(word: usize) -> Row
+    ensures { λ r. ⌜ found r ≡ worded word ⌝ }
+{
+    if word == NO_ROW {
+        return Row::None;
+    }
+    checked(word / 4, word % 4)
+}
+
+// The row of a return offset in the table.
+pub fn handler2_at<'a>(
+    section: &'a [u8],
+    section_base: usize,
+    stack: &'a [u8],
+    stack_base: usize,
+    table: usize,
+    limit: usize,
+    ret: u32,
+) -> Row
+    ensures { λ r. ⌜ found r ≡ Handler2.handler2 (lent (now (section .entry)) «section_base» (now (stack .entry)) «stack_base» .regions) table limit ret ⌝ }
+{
+    let word = handler2_in(section, section_base, table, limit, ret as usize);
+    if word == UNSETTLED {
+        return handler2_anywhere(section, section_base, stack, stack_base, table, limit, ret);
+    }
+    settled(word)
+}
+
+// The same in what is lent; without a call of `handler2_at`, whose answer would go through memory.
 pub fn handler2<'a>(
     section: &'a [u8],
     section_base: usize,
@@ -226,5 +387,9 @@ pub fn handler2<'a>(
     if !opening::opens(section, section_base, stack, stack_base) {
         return Row::Refused(BAD_OPENING);
     }
-    handler2_at(section, section_base, stack, stack_base, table, limit, ret)
+    let settling = handler2_in(section, section_base, table, limit, ret as usize);
+    if settling == UNSETTLED {
+        return handler2_anywhere(section, section_base, stack, stack_base, table, limit, ret);
+    }
+    settled(settling)
 }

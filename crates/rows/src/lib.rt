@@ -1,5 +1,6 @@
 // Row tables: ps-unwind's `handler` and `handler2`.
 ghost use mathlib.Core.Path.{_≡_};
+ghost use Prim.Native.Nat.{_<_};
 ghost use Rattle.rows.specs.Row as Spec;
 use failure::BAD_EKO_RECORD;
 
@@ -40,4 +41,11 @@ pub fn checked(pad: usize, action: usize) -> Row
         return Row::Is(pad, action);
     }
     Row::Refused(BAD_EKO_RECORD)
+}
+
+// A byte as an address-sized number.
+fn wide(x: u8) -> usize
+    ensures { λ r. ⌜ (r ≡ x) × (r < 256) ⌝ }
+{
+    x as usize
 }

@@ -1,0 +1,163 @@
+-- `rows::handler2::among_in` meets its contract. Each turn passes a row. Assumes nothing.
+use mathlib.Core.Path.{_≡_, refl, sym, _∙_, ap}
+use Prim.Native.Nat.{ℕ, suc, _-_, _≤_, _<_}
+use native.Mathlib.Omega.{arith}
+use Rattle.leb.proofs.Numbers.{small}
+use Rattle.rows.specs.Handler2.{rowsFrom}
+use Rattle.rows.specs.Held.{alone}
+use Rattle.rows.proofs.Short.{unsettled, said, row-past, row-here, row-on}
+use borrow.Author.Needs.{needs}
+use Rattle.rows.proofs.handler2.among_in.Statement.{statement}
+use Rattle.rows.proofs.handler2.among_in.Tie as tie
+
+abbrev Inv-loop : tie.InvT-loop
+Inv-loop section base limit ret rows first left₀ pos₀ at₀ left pos at =
+    (rowsFrom rows (alone section base) limit first 0 ret ≡ rowsFrom left (alone section base) limit pos at ret) × (at ≤ ret) × (base ≤ pos)
+
+abbrev μ-loop : tie.MeasureT-loop
+μ-loop section base limit ret rows first left₀ pos₀ at₀ left pos at = left
+
+loop-holds : tie.Need-loop-holds Inv-loop μ-loop
+loop-holds c = (refl, omega arith, c .before .pre .0)
+
+sub-left : tie.Need-sub-left Inv-loop μ-loop
+sub-left c = search needs
+
+number-in-requires : tie.Need-number-in-requires Inv-loop μ-loop
+number-in-requires c κs = (c .before .loop .inv .2, c .before .before .before .pre .1)
+
+enum-known-delta : tie.Need-enum-known-delta Inv-loop μ-loop
+enum-known-delta c = search needs
+
+enum-told : tie.Need-enum-told Inv-loop μ-loop
+enum-told c = search needs
+
+returns : tie.Need-returns Inv-loop μ-loop
+returns c = unsettled _ refl
+
+number-in-requires-2 : tie.Need-number-in-requires-2 Inv-loop μ-loop
+number-in-requires-2 c κs =
+    let d = c .before in
+    let l = d .before .before in
+    let i = l .before in
+    (omega (arith, i .before .loop .inv .2, small _ _ _ _ (sym (said _ _ _ _ (l .number-in .ensures) (d .delta .given .1))) .next), i .before .before .before .pre .1)
+
+enum-known-word : tie.Need-enum-known-word Inv-loop μ-loop
+enum-known-word c = search needs
+
+enum-told-2 : tie.Need-enum-told-2 Inv-loop μ-loop
+enum-told-2 c = search needs
+
+returns-2 : tie.Need-returns-2 Inv-loop μ-loop
+returns-2 c = unsettled _ refl
+
+returns-3 : tie.Need-returns-3 Inv-loop μ-loop
+returns-3 c = unsettled _ refl
+
+add-at : tie.Need-add-at Inv-loop μ-loop
+add-at c =
+    let e = c in
+    let v = e .before .before in
+    let l2 = v .before .before in
+    let d = l2 .before .before in
+    let l = d .before .before in
+    let i = l .before in
+    let s = i .before .loop .inv in
+    let p = said _ _ _ _ (l .number-in .ensures) (d .delta .given .1) in
+    omega (arith, s .1, i .before .before .before .pre .2, small _ _ _ _ (sym p) .value)
+
+returns-4 : tie.Need-returns-4 Inv-loop μ-loop
+returns-4 c x =
+    let e = c .before in
+    let v = e .before .before in
+    let l2 = v .before .before in
+    let d = l2 .before .before in
+    let l = d .before .before in
+    let i = l .before in
+    let s = i .before .loop .inv in
+    let p = said _ _ _ _ (l .number-in .ensures) (d .delta .given .1) in
+    let q = said _ _ _ _ (l2 .number-in2 .ensures) (v .word .given .1) in
+    let n : i .before .loop .left ≡ suc (i .before .loop .left - 1) = omega (arith, i .loop-test .taken) in
+    row-past _ _ _ _ _ _ _ n _ p _ q (e .if1 .left) (c .if2 .taken) ∙ sym (s .0)
+
+matched-in-requires : tie.Need-matched-in-requires Inv-loop μ-loop
+matched-in-requires c κs =
+    let e = c .before .before in
+    let v = e .before .before in
+    let l2 = v .before .before in
+    let d = l2 .before .before in
+    let l = d .before .before in
+    let i = l .before in
+    let s = i .before .loop .inv in
+    let p = said _ _ _ _ (l .number-in .ensures) (d .delta .given .1) in
+    let q = said _ _ _ _ (l2 .number-in2 .ensures) (v .word .given .1) in
+    let r = i .before .before .before .pre in
+    let word = small _ _ _ _ (sym q) in
+    (omega (arith, s .2, small _ _ _ _ (sym p) .next, word .next), r .1, word .value)
+
+returns-5 : tie.Need-returns-5 Inv-loop μ-loop
+returns-5 c x =
+    let e = c .before .before .before in
+    let v = e .before .before in
+    let l2 = v .before .before in
+    let d = l2 .before .before in
+    let l = d .before .before in
+    let i = l .before in
+    let s = i .before .loop .inv in
+    let p = said _ _ _ _ (l .number-in .ensures) (d .delta .given .1) in
+    let q = said _ _ _ _ (l2 .number-in2 .ensures) (v .word .given .1) in
+    let n : i .before .loop .left ≡ suc (i .before .loop .left - 1) = omega (arith, i .loop-test .taken) in
+    row-here _ _ _ _ _ _ _ n _ p _ q (e .if1 .left) (c .before .before .if2 .left) (c .before .if3 .taken) _ (c .matched-in .ensures x) ∙ sym (s .0)
+
+loop-less : tie.Need-loop-less Inv-loop μ-loop
+loop-less c =
+    let i = c .before .before .before .before .before .before .before .before .before .before .before in
+    omega (arith, i .loop-test .taken)
+
+loop-again : tie.Need-loop-again Inv-loop μ-loop
+loop-again c =
+    let e = c .before .before in
+    let v = e .before .before in
+    let l2 = v .before .before in
+    let d = l2 .before .before in
+    let l = d .before .before in
+    let i = l .before in
+    let s = i .before .loop .inv in
+    let p = said _ _ _ _ (l .number-in .ensures) (d .delta .given .1) in
+    let q = said _ _ _ _ (l2 .number-in2 .ensures) (v .word .given .1) in
+    let n : i .before .loop .left ≡ suc (i .before .loop .left - 1) = omega (arith, i .loop-test .taken) in (
+      s .0 ∙ sym (row-on _ _ _ _ _ _ _ n _ p _ q (e .if1 .left) (c .before .if2 .left) (c .if3 .left)),
+      c .before .if2 .left,
+      omega (arith, s .2, small _ _ _ _ (sym p) .next, small _ _ _ _ (sym q) .next),
+    )
+
+returns-6 : tie.Need-returns-6 Inv-loop μ-loop
+returns-6 c x =
+    let z : c .before .loop .left ≡ 0 = omega (arith, c .loop-test .left) in
+    let a = c .before .before .before .args in
+    sym (c .before .loop .inv .0 ∙ ap (λ (k : ℕ). rowsFrom k (alone (a .section .now) (a .base)) (a .limit) (c .before .loop .pos) (c .before .loop .at) (a .ret)) z)
+
+pub among-in-spec : {M : Type 1} → statement M
+among-in-spec =
+    tie.close
+    (tie.spec
+    Inv-loop
+    μ-loop
+    loop-holds
+    sub-left
+    number-in-requires
+    enum-known-delta
+    enum-told
+    returns
+    number-in-requires-2
+    enum-known-word
+    enum-told-2
+    returns-2
+    returns-3
+    add-at
+    returns-4
+    matched-in-requires
+    returns-5
+    loop-less
+    loop-again
+    returns-6)

@@ -5,23 +5,21 @@ use mathlib.Core.List.{List}
 use Prim.Native.Nat.{ℕ, zero, suc, _+_, _≤_, _<_}
 use native.Mathlib.Omega.{arith}
 use lib.Dec.{eqb, ltb}
-use lib.ListN.{getD}
+use lib.ListN.{getD, set}
 use borrow.Author.Tests.{eq-eqb, ne-eqb, lt-ltb, le-ltb}
 use Rattle.failure.specs.Choice.{if_then_else_}
 use Rattle.failure.specs.Outcome as Outcome
 use Rattle.failure.specs.Outcome.{Outcome, Answer, _>>=_}
 use Rattle.mem.specs.Memory.{Memory, Lent}
 use Rattle.mem.specs.Opening.{opens}
+use Rattle.mem.specs.Wrapping.{sum}
 use Rattle.arch.specs.Arch.{Arch, numbers, isKnown}
-use Rattle.arch.specs.File.{sp, pc}
-use Rattle.arch.specs.declared.Regs.{Regs}
+use Rattle.arch.specs.File.{sp, pc, setPc}
 use Rattle.rows.specs.Row as Row
 use Rattle.rows.specs.Row.{Found}
 use Rattle.lookup.specs.declared.Record.{Record}
-use Rattle.personality.specs.Reason.{Reason, rowOf, installed}
-use Rattle.personality.specs.Answers.{decided}
-use Rattle.personality.specs.declared.Code.the-variants as code
-use Rattle.personality.specs.declared.Decided.{Decided}
+use Rattle.personality.specs.Reason.{rowOf}
+use Rattle.personality.proofs.Reasons.{install}
 use Rattle.model.specs.declared.Unwinding.{Unwinding}
 use Rattle.model.specs.FrameStep as Walk
 use Rattle.model.specs.FrameStep.{Frame, Step, callerOf, frameStep}
@@ -33,7 +31,6 @@ use Rattle.unwind.specs.Turns.{Seen, End, Rowless, WithRow, seenAs, seen
 use Rattle.unwind.specs.declared.Met.{Met}
 use Rattle.unwind.specs.declared.Met.the-variants as met
 use Rattle.unwind.specs.declared.ResumeAnswer.the-variants as answer
-use Rattle.unwind.specs.declared.Resumed.{Resumed}
 use Rattle.unwind.specs.declared.Cleaning.{Cleaning}
 use Rattle.unwind.specs.declared.Cleaning.the-variants.{On, Install, Fatal, Refused}
 use Rattle.unwind.proofs.Meeting.{seen-below}
@@ -75,42 +72,12 @@ module _ (start pad action : ℕ) where
     unfolding cleanRow
     chosen-missed e s = rw (eq-eqb action 1 e, s)
 
-module _ (u : Unwinding) (a : Arch) (number start pad : ℕ) (own : Regs) (next : Frame) (d : Decided)
-    (e : d ≡ decided own (installed a (u .exception) start pad (own .r))) where
-  -- the frame lands
-  pub lands : (n : ℕ) → d .code ≡ code.Reason n → (v : Unwinding) → v ≡ goingOn u next →
-      record { answer = answer.Install number; regs = d .regs; unwinding = v }
-      ≡ resumedBy u (installAt a (u .exception) number start pad (own .r) next)
-  unfolding installAt
-  lands n p v q = go (installed a (u .exception) start pad (own .r)) e
-    where
-      go : (o : Outcome Reason) → d ≡ decided own o →
-          record { answer = answer.Install number; regs = d .regs; unwinding = v }
-          ≡ resumedBy u (o >>= λ reason. Answer (Cleanup.Install number (reason .file) next))
-      go (Outcome.Refused k) h =
-          let s : code.Refused k ≡ code.Reason n = sym (ap (λ (x : Decided). x .code) h) ∙ p in
-          let z : _≡_ {A = ℕ} 0 1 = cc in
-          absurd (omega arith)
-      go (Answer x) h =
-          ap (λ (y : Decided). record { answer = answer.Install number; regs = y .regs; unwinding = v }) h
-          ∙ ap (λ (y : Unwinding). record { answer = answer.Install number; regs = record { r = x .file }; unwinding = y }) q
-
-  -- or the landing is refused
-  pub lands-refused : (n : ℕ) → d .code ≡ code.Refused n →
-      unmoved (answer.Refused n) u ≡ resumedBy u (installAt a (u .exception) number start pad (own .r) next)
-  unfolding installAt
-  lands-refused n p = go (installed a (u .exception) start pad (own .r)) e
-    where
-      go : (o : Outcome Reason) → d ≡ decided own o →
-          unmoved (answer.Refused n) u ≡ resumedBy u (o >>= λ reason. Answer (Cleanup.Install number (reason .file) next))
-      go (Outcome.Refused k) h =
-          let s : code.Refused k ≡ code.Refused n = sym (ap (λ (x : Decided). x .code) h) ∙ p in
-          let z : n ≡ k = cc in
-          ap (λ (y : ℕ). unmoved (answer.Refused y) u) z
-      go (Answer x) h =
-          let s : code.Reason (x .code) ≡ code.Refused n = sym (ap (λ (y : Decided). y .code) h) ∙ p in
-          let z : _≡_ {A = ℕ} 0 1 = cc in
-          absurd (omega arith)
+-- a landing, by the file at the pad
+installs : (arch exception number start pad : ℕ) (file : List ℕ) (next : Frame) →
+    installAt (numbers arch) exception number start pad file next
+    ≡ Answer (Cleanup.Install number (setPc (set (set file 0 exception) 1 0) (sum start pad)) next)
+unfolding installAt
+installs arch exception number start pad file next = rw (install arch exception start pad file)
 
 -- what a frame's step and row say in the cleanup phase
 module _ (arch : ℕ) (m : Memory) (exception : ℕ) (c : Choice) (f : Frame) where
@@ -248,10 +215,15 @@ module _ (arch : ℕ) (m : Memory) (u : Unwinding) where
           go (suc n) i k = record { fuel = n; left = k; enough = omega arith }
 
       -- a landing
-      pub cleaning-lands : (start pad : ℕ) → t ≡ Install start pad → (r : Resumed) →
-          r ≡ resumedBy u (installAt (numbers arch) (u .exception) (f .number) start pad (f .file) (callerOf f file)) →
-          r ≡ resumedBy u (cleanedFrom 1025 arch m u (frameOf u))
-      cleaning-lands start pad h r k = k ∙ sym (ap (resumedBy u) (by-turn (Install start pad) h))
+      pub cleaning-lands : (start pad : ℕ) → t ≡ Install start pad → (own : List ℕ) →
+          own ≡ setPc (set (set (f .file) 0 (u .exception)) 1 0) (sum start pad) → (v : Unwinding) → v ≡ goingOn u (callerOf f file) →
+          record { answer = answer.Install (f .number); regs = record { r = own }; unwinding = v }
+          ≡ resumedBy u (cleanedFrom 1025 arch m u (frameOf u))
+      cleaning-lands start pad h own x v y =
+          rw (x, y)
+          (sym
+          (ap (resumedBy u)
+          (by-turn (Install start pad) h ∙ installs arch (u .exception) (f .number) start pad (f .file) (callerOf f file))))
 
       -- 2
       pub cleaning-fatal : t ≡ Fatal → unmoved answer.Fatal u ≡ resumedBy u (cleanedFrom 1025 arch m u (frameOf u))

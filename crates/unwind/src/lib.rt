@@ -5,10 +5,12 @@ ghost use mathlib.Core.Path.{_≡_};
 ghost use mathlib.Core.Bool.{true, false, not, _&&_, _||_};
 ghost use Prim.Native.Nat.{_-_, _+_, _<_, _≤_};
 ghost use lib.Dec.{eqb, ltb};
+ghost use lib.ListN.{set};
 ghost use Rattle.failure.specs.Outcome.{Answer};
 ghost use mathlib.Core.Option.{some};
 ghost use Rattle.mem.specs.Memory.{lent};
 ghost use Rattle.mem.specs.Opening.{opens};
+ghost use Rattle.mem.specs.Wrapping.{sum};
 ghost use Rattle.arch.specs.Arch.{numbers, isKnown};
 ghost use Rattle.arch.specs.File as File;
 ghost use Rattle.model.specs.FrameStep as Walk;
@@ -17,8 +19,10 @@ ghost use Rattle.model.specs.Cleanup as Cleanup;
 ghost use Rattle.model.specs.Unwinding as Spec;
 ghost use Rattle.model.specs.Call.{Promised};
 ghost use Rattle.unwind.specs.Answers.{frameWith, frameAt, staying, stepped, searched, raisedBy, unmoved, resumedBy, cleaned, callNumber, unwoundBy};
-ghost use Rattle.unwind.specs.Turns.{fileTold, callerByRun, passed, recordOf, located, meeting, seen, Follows, SearchTurn, cleanRow, cleanMet, installAt};
+ghost use Rattle.unwind.specs.Turns.{fileTold, callerByRun, passed, recordOf, located, meeting, seen, Follows, SearchTurn, cleanRow, cleanMet};
 use arch::COLUMNS;
+use arch::DATA_REG0;
+use arch::DATA_REG1;
 use arch::PC_COLUMN;
 use arch::Regs;
 use arch::Status;
@@ -38,9 +42,8 @@ use lookup::Record;
 use lookup::VERSION2;
 use lookup::lookup_part;
 use mem::opening;
+use mem::wrapping;
 use model::Unwinding;
-use personality::Code;
-use personality::installed;
 use personality::row_of;
 use program::run_program;
 use rows::ACTION_CATCH;
@@ -737,33 +740,15 @@ fn kept(answer: ResumeAnswer, unwinding: Unwinding) -> Resumed
     }
 }
 
-// A landing at a frame, with the frame's own registers and its caller's.
-fn landed(
-    arch: u8,
-    unwinding: Unwinding,
-    number: usize,
-    start: usize,
-    pad: usize,
-    own: Regs,
-    caller: Regs,
-) -> Resumed
-    requires { ⌜ number < 1024 ⌝ }
-    ensures { λ r. ⌜
-        r ≡ resumedBy unwinding
-        (installAt (numbers arch) (unwinding .exception) number start pad (own .r) (frameAt (number + 1) false caller))
+// The frame's file becomes the one at its pad.
+fn install(exception: usize, start: usize, pad: usize, own: &mut [usize; COLUMNS])
+    ensures { λ _. ⌜
+        now (own .exit) ≡ File.setPc (set (set (now (own .entry)) 0 exception) 1 0) (sum start pad)
         ⌝ }
 {
-    let at_pad = installed(arch, unwinding.exception, start, pad, own);
-    let regs = at_pad.regs;
-    let code = at_pad.code;
-    match code {
-        Code::Reason(_) => Resumed {
-            answer: ResumeAnswer::Install(number),
-            regs,
-            unwinding: going_on(unwinding, number + 1, false, caller),
-        },
-        Code::Refused(n) => kept(ResumeAnswer::Refused(n), unwinding),
-    }
+    own[DATA_REG0] = exception;
+    own[DATA_REG1] = 0;
+    own[PC_COLUMN] = wrapping::add(start, pad);
 }
 
 // The next landing from an unwinding's frame on.
@@ -788,7 +773,7 @@ fn clean<'a>(
     let mut number = unwinding.number;
     let mut interrupted = unwinding.interrupted;
     loop {
-        let own = file;
+        let mut own = file;
         let met = meet(
             section,
             section_base,
@@ -808,15 +793,14 @@ fn clean<'a>(
                 number += 1;
                 interrupted = false;
             }
-            Cleaning::Install(start, pad) => return landed(
-                arch,
-                unwinding,
-                number,
-                start,
-                pad,
-                Regs { r: own },
-                Regs { r: file },
-            ),
+            Cleaning::Install(start, pad) => {
+                install(unwinding.exception, start, pad, &mut own);
+                return Resumed {
+                    answer: ResumeAnswer::Install(number),
+                    regs: Regs { r: own },
+                    unwinding: going_on(unwinding, number + 1, false, Regs { r: file }),
+                };
+            }
             Cleaning::Fatal => return kept(ResumeAnswer::Fatal, unwinding),
             Cleaning::Refused(n) => return kept(ResumeAnswer::Refused(n), unwinding),
         }

@@ -70,21 +70,30 @@ enum-known-start : tie.Need-enum-known-start Inv-loop μ-loop
 enum-known-start c =
     search needs
 
--- so has a landing
-below-landing : (c : tie.After-known-told Inv-loop μ-loop) → c .before .before .before .before .before .before .before .before .loop .number < 1024
-below-landing c =
-    cleaning-below _ _ (c .before .before .before .before .before .before .before .before .before .before .before .before .before .before .args .unwinding) _ (c .before .before .before .before .before .before .meet .last .1 .1 .1 .1 .1 .1 .1 .0) (c .before .before .before .before .before .before .meet .result) (c .before .before .before .before .before .before .meet .ensures) _ _ refl _ (c .before .before .before .before .before .before .before .before .before .before .before .sp-column .ensures .0) refl _
-    (c .before .before .before .clean-turn .ensures)
-    (λ (n : ℕ) (e : c .before .before .before .clean-turn .result ≡ Refused n). apart-install _ _ n (sym (c .before .start .given .1) ∙ e))
+install-requires : tie.Need-install-requires Inv-loop μ-loop
+install-requires c κs =
+    search needs
 
-landed-requires : tie.Need-landed-requires Inv-loop μ-loop
-landed-requires c κs =
+-- so has a landing
+below-landing : (c : tie.After-install Inv-loop μ-loop) → c .before .before .before .before .before .before .before .before .before .before .loop .number < 1024
+below-landing c =
+    cleaning-below _ _ (c .before .before .before .before .before .before .before .before .before .before .before .before .before .before .before .before .args .unwinding) _ (c .before .before .before .before .before .before .before .before .meet .last .1 .1 .1 .1 .1 .1 .1 .0) (c .before .before .before .before .before .before .before .before .meet .result) (c .before .before .before .before .before .before .before .before .meet .ensures) _ _ refl _ (c .before .before .before .before .before .before .before .before .before .before .before .before .before .sp-column .ensures .0) refl _
+    (c .before .before .before .before .before .clean-turn .ensures)
+    (λ (n : ℕ) (e : c .before .before .before .before .before .clean-turn .result ≡ Refused n). apart-install _ _ n (sym (c .before .before .before .start .given .1) ∙ e))
+
+add-going-on : tie.Need-add-going-on Inv-loop μ-loop
+add-going-on c =
     let b = below-landing c in omega (arith, b)
+
+going-on-requires : tie.Need-going-on-requires Inv-loop μ-loop
+going-on-requires c κs =
+    search needs
 
 returns : tie.Need-returns Inv-loop μ-loop
 returns c =
-    cleaning-lands _ _ _ _ (c .before .before .before .before .before .before .before .meet .last .1 .1 .1 .1 .1 .1 .1 .0) (c .before .before .before .before .before .before .before .meet .result) (c .before .before .before .before .before .before .before .meet .ensures) _ _ refl _ (c .before .before .before .before .before .before .before .before .before .before .before .before .sp-column .ensures .0) refl _
-    (c .before .before .before .before .clean-turn .ensures) (c .before .before .before .before .before .before .before .before .before .loop .inv) _ _ (c .before .before .start .given .1) _ (c .landed .ensures)
+    cleaning-lands _ _ _ _ (c .before .before .before .before .before .before .before .before .before .meet .last .1 .1 .1 .1 .1 .1 .1 .0) (c .before .before .before .before .before .before .before .before .before .meet .result) (c .before .before .before .before .before .before .before .before .before .meet .ensures) _ _ refl _ (c .before .before .before .before .before .before .before .before .before .before .before .before .before .before .sp-column .ensures .0) refl _
+    (c .before .before .before .before .before .before .clean-turn .ensures) (c .before .before .before .before .before .before .before .before .before .before .before .loop .inv) _ _ (c .before .before .before .before .start .given .1) _
+    (c .before .install .ensures) _ (c .going-on .ensures)
 
 enum-told-2 : tie.Need-enum-told-2 Inv-loop μ-loop
 enum-told-2 c =
@@ -129,7 +138,9 @@ clean-spec =
     loop-less
     loop-again
     enum-known-start
-    landed-requires
+    install-requires
+    add-going-on
+    going-on-requires
     returns
     enum-told-2
     kept-requires

@@ -2,10 +2,10 @@
 pub mod Form
 pub mod Decoding
 pub mod Following
+pub mod Offsets
 pub mod Loop
 pub mod Public
 pub mod Enough
-pub mod Offsets
 pub mod Stretch
 pub mod Section
 pub mod Proper

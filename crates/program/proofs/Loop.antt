@@ -1,15 +1,15 @@
 -- A run seen from where its loop stands. Assumes nothing.
-use mathlib.Core.Path.{_≡_, refl, sym, _∙_, ap}
-use mathlib.Core.Bool.{false}
+use mathlib.Core.Path.{_≡_, refl, sym, _∙_, ap, subst}
+use mathlib.Core.Bool.{Bool, true, false}
 use mathlib.Core.List.{List, [], _∷_}
 use Prim.Native.Nat.{ℕ, zero, suc, _+_, _-_, _*_, _^_, _≤_, _<_}
 use native.Mathlib.Nat.{mul-le-mul-left}
 use native.Mathlib.Omega.{arith}
-use lib.Dec.{lit≤}
+use lib.Dec.{ltb, lit≤}
 use lib.ListN.{length, getD, length-set}
 use lib.ListN as ListN
 use lib.Seq.{getD-set-same, getD-set-other}
-use borrow.Author.Tests.{lt-ltb, le-ltb, eq-eqb, ne-eqb}
+use borrow.Author.Tests.{lt-ltb, le-ltb, eq-eqb, ne-eqb, ltb-true, ltb-false}
 use Rattle.failure.specs.Outcome as Outcome
 use Rattle.failure.specs.Outcome.{Outcome, Answer}
 use Rattle.failure.specs.Failure.{BadEkoRecord, RememberStackOverflow}
@@ -22,11 +22,14 @@ use Rattle.program.specs.declared.decode.Op.{Op}
 use Rattle.program.specs.declared.decode.Op.the-variants.{End, Advance, Set, Remember, Recall}
 use Rattle.program.specs.declared.decode.Rule.{Rule}
 use Rattle.program.specs.declared.Status.the-variants as status
+use Rattle.program.specs.declared.Step.{Step}
+use Rattle.program.specs.declared.Step.the-variants as step
 use Rattle.program.specs.Operation.{Decoding, decode}
 use Rattle.program.specs.Rule.{follow}
-use Rattle.program.specs.Run.{Stand, Ran, Turn, On, Ends, Refused, act, set, turned, runFrom, begin, run, maxRemember}
-use Rattle.program.specs.Answers.{ended}
+use Rattle.program.specs.Run.{Stand, Ran, Turn, On, Ends, Refused, act, set, recall, turned, runFrom, begin, run, maxRemember}
+use Rattle.program.specs.Answers.{stepped, Room, ended, finished, stopped, through}
 use Rattle.program.proofs.Decoding.{decode-limit, decode-moves}
+use Rattle.program.proofs.Offsets.{Lower, act-lower, Within, act-within}
 
 -- what an array of states holds past its end
 abbrev pub nothing : State
@@ -162,143 +165,236 @@ module _ (m : Memory) (a : Arch) (program limit off : ℕ) where
           let moves = decode-moves m limit pos (record { op = op; next = next }) (sym e) in
           omega (arith, moves .0, moves .1)
 
--- what each operation comes to where the loop stands
-module _ (a : Arch) (off next : ℕ) (st : State) (states : List State) (depth at : ℕ) where
-  pub act-end : act a off next End (standAt st states depth at) ≡ Ends (record { state = st; after = next })
+-- what each operation comes to
+module _ (a : Arch) (off next : ℕ) (s : Stand) where
+  -- the operation that was found is the one that was given
+  pub act-found : (op found : Op) (t : Turn) → op ≡ found → t ≡ act a off next found s → t ≡ act a off next op s
+  act-found op found t e p = p ∙ sym (ap (λ (o : Op). act a off next o s) e)
+
+  pub act-end : Ends (record { state = s .state; after = next }) ≡ act a off next End s
   unfolding act
   act-end = refl
 
   -- an advance by so many bytes
-  module _ (n by : ℕ) (e : by ≡ n * a .unit) where
-    pub act-overflow : at < 2 ^ 64 → 2 ^ 64 - 1 - at < by → act a off next (Advance n) (standAt st states depth at) ≡ Refused BadEkoRecord
+  module _ (n by : ℕ) (e : by ≡ n * a .unit) (low : s .at < 2 ^ 64) where
+    pub act-overflow : 2 ^ 64 - 1 - s .at < by → Refused BadEkoRecord ≡ act a off next (Advance n) s
     unfolding act
-    act-overflow l h = rw (sym e) (simp (lt-ltb (2 ^ 64 - 1) (at + by) (omega arith)))
+    act-overflow h = rw (sym e) (simp (lt-ltb (2 ^ 64 - 1) (s .at + by) (omega arith)))
 
-    module _ (fits : by ≤ 2 ^ 64 - 1 - at) (low : at < 2 ^ 64) where
-      pub act-past :
-          off < at + by → act a off next (Advance n) (standAt st states depth at) ≡ Ends (record { state = st; after = 0 })
+    module _ (fits : by ≤ 2 ^ 64 - 1 - s .at) where
+      pub act-past : off < s .at + by → Ends (record { state = s .state; after = 0 }) ≡ act a off next (Advance n) s
       unfolding act
-      act-past h = rw (sym e) (simp (le-ltb (2 ^ 64 - 1) (at + by) (omega arith), lt-ltb off (at + by) h))
+      act-past h = rw (sym e) (simp (le-ltb (2 ^ 64 - 1) (s .at + by) (omega arith), lt-ltb off (s .at + by) h))
 
       pub act-advance :
-          at + by ≤ off → act a off next (Advance n) (standAt st states depth at) ≡ On (standAt st states depth (at + by))
+          s .at + by ≤ off → On (record { state = s .state; remembered = s .remembered; at = s .at + by }) ≡ act a off next (Advance n) s
       unfolding act
-      act-advance h = rw (sym e) (simp (le-ltb (2 ^ 64 - 1) (at + by) (omega arith), le-ltb off (at + by) h))
+      act-advance h = rw (sym e) (simp (le-ltb (2 ^ 64 - 1) (s .at + by) (omega arith), le-ltb off (s .at + by) h))
 
   -- a rule set
   pub act-set :
-      (r : Rule) (st′ : State) → Answer st′ ≡ follow a r st →
-      act a off next (Set r) (standAt st states depth at) ≡ On (standAt st′ states depth at)
+      (r : Rule) (st : State) → Answer st ≡ follow a r (s .state) →
+      On (record { state = st; remembered = s .remembered; at = s .at }) ≡ act a off next (Set r) s
   unfolding act
-  act-set r st′ e = ap (set (standAt st states depth at)) (sym e)
+  act-set r st e = ap (set s) e
 
-  pub act-set-refused :
-      (r : Rule) (n : ℕ) → Outcome.Refused n ≡ follow a r st → act a off next (Set r) (standAt st states depth at) ≡ Refused n
+  pub act-set-refused : (r : Rule) (n : ℕ) → Outcome.Refused n ≡ follow a r (s .state) → Refused n ≡ act a off next (Set r) s
   unfolding act
-  act-set-refused r n e = ap (set (standAt st states depth at)) (sym e)
+  act-set-refused r n e = ap (set s) e
 
   -- a state remembered, unless there are four
-  pub act-remember-full :
-      depth ≡ maxRemember → act a off next Remember (standAt st states depth at) ≡ Refused RememberStackOverflow
+  pub act-remember-full : length (s .remembered) ≡ maxRemember → Refused RememberStackOverflow ≡ act a off next Remember s
   unfolding act
-  act-remember-full e = simp (eq-eqb (length (kept depth states)) maxRemember (kept-length depth states ∙ e))
+  act-remember-full e = simp (eq-eqb (length (s .remembered)) maxRemember e)
 
   pub act-remember :
-      (depth ≡ maxRemember → ⊥) → depth < length states →
-      act a off next Remember (standAt st states depth at) ≡ On (standAt st (ListN.set states depth st) (depth + 1) at)
+      (length (s .remembered) ≡ maxRemember → ⊥) →
+      On (record { state = s .state; remembered = s .state ∷ s .remembered; at = s .at }) ≡ act a off next Remember s
   unfolding act
-  act-remember e h =
-      simp (ne-eqb (length (kept depth states)) maxRemember (λ p. e (sym (kept-length depth states) ∙ p)))
-      (ap (λ (l : List State). On (record { state = st; remembered = l; at = at })) (sym (kept-more depth states st h)))
+  act-remember e = simp (ne-eqb (length (s .remembered)) maxRemember e)
 
   -- a state recalled, if there is one
-  pub act-recall-none : depth ≡ 0 → act a off next Recall (standAt st states depth at) ≡ Refused BadEkoRecord
+  pub act-recall : recall (s .remembered) s ≡ act a off next Recall s
   unfolding act
-  act-recall-none e = rw e
+  act-recall = refl
 
-  pub act-recall :
+  pub act-recall-none : length (s .remembered) ≡ 0 → Refused BadEkoRecord ≡ act a off next Recall s
+  act-recall-none = λ e. none (s .remembered) e ∙ act-recall
+    where
+      none : (l : List State) → length l ≡ 0 → Refused BadEkoRecord ≡ recall l s
+      none [] e = refl
+      none (st ∷ l) e = absurd (omega arith)
+
+-- what an operation leaves to the loop, where the loop stands
+pub stepped-found :
+    (s found : Step) (st : State) (states : List State) (at : ℕ) (t : Turn) →
+    s ≡ found → stepped s st states at ≡ t → t ≡ stepped found st states at
+stepped-found s found st states at t e p = sym p ∙ ap (λ (x : Step). stepped x st states at) e
+
+pub room-found : (s found : Step) (depth : ℕ) → s ≡ found → Room s depth → Room found depth
+room-found s found depth e r = subst (λ (x : Step). Room x depth) e r
+
+module _ (st : State) (states : List State) (depth at : ℕ) where
+  pub step-remember :
+      depth < maxRemember → length states ≡ maxRemember → stepped step.Remember st (kept depth states) at ≡ On (standAt st (ListN.set states depth st) (depth + 1) at)
+  step-remember h room =
+      ap (λ (l : List State). On (record { state = st; remembered = l; at = at })) (sym (kept-more depth states st (omega arith)))
+
+  pub step-recall :
       (depth ≡ 0 → ⊥) →
-      act a off next Recall (standAt st states depth at) ≡
-      On (standAt (getD states (depth - 1) nothing) states (depth - 1) at)
-  unfolding act
-  act-recall e = rw (kept-less depth states e)
+      stepped step.Recall st (kept depth states) at ≡ On (standAt (getD states (depth - 1) nothing) states (depth - 1) at)
+  step-recall e = rw (kept-less depth states e)
 
--- what each operation makes of the run where the loop stands
-module _
-    (m : Memory) (a : Arch) (program limit off : ℕ) (st : State) (states : List State) (depth at pos : ℕ)
-    (s : Sofar m a program limit off st states depth at pos) (next : ℕ)
-  where
-    pub ops-end :
-        Answer (record { op = End; next = next }) ≡ decode m limit pos →
-        run m a program limit off ≡ Answer (record { state = st; after = next })
-    ops-end e = sofar-ends m a program limit off st states depth at pos s next End e _ (act-end a off next st states depth at)
+-- the first run: it has ended where the second passed its offset, or stands where the second does
+abbrev pub First : Memory → Arch → ℕ → ℕ → ℕ → Bool → State → State → List State → ℕ → ℕ → ℕ → Type 0
+First m a program limit off true keep st states depth at pos = run m a program limit off ≡ Answer (record { state = keep; after = 0 })
+First m a program limit off false keep st states depth at pos = (keep ≡ entry a) × Sofar m a program limit off st states depth at pos
 
-    module _ (n : ℕ) (e : Answer (record { op = Advance n; next = next }) ≡ decode m limit pos) (by : ℕ) (is : by ≡ n * a .unit)
-        (small : off < 2 ^ 64) where
-      low : at < 2 ^ 64
-      low = omega (arith, s .within)
+-- both runs, from where the loop stands
+pub record Both
+    (m : Memory) (a : Arch) (program limit off last : ℕ) (passed : Bool) (keep st : State) (states : List State) (depth at pos : ℕ)
+    : Type 0 where
+  pub first : First m a program limit off passed keep st states depth at pos
+  pub second : Sofar m a program limit last st states depth at pos
 
-      pub ops-overflow : 2 ^ 64 - 1 - at < by → run m a program limit off ≡ Outcome.Refused BadEkoRecord
-      ops-overflow h =
-          sofar-refused m a program limit off st states depth at pos s next (Advance n) e _
-          (act-overflow a off next st states depth at n by is low h)
+-- only a run that has passed the offset stands past it
+pub both-passed :
+    (m : Memory) (a : Arch) (program limit off last : ℕ) (passed : Bool) (keep st : State) (states : List State) (depth at pos : ℕ) →
+    Both m a program limit off last passed keep st states depth at pos → off < at → passed ≡ true
+both-passed m a program limit off last true keep st states depth at pos b h = refl
+both-passed m a program limit off last false keep st states depth at pos b h = absurd (omega (arith, b .first .1 .within))
 
-      pub ops-past : by ≤ 2 ^ 64 - 1 - at → off < at + by → run m a program limit off ≡ Answer (record { state = st; after = 0 })
-      ops-past f h =
-          sofar-ends m a program limit off st states depth at pos s next (Advance n) e _
-          (act-past a off next st states depth at n by is f low h)
+module _ (m : Memory) (a : Arch) (program limit off last : ℕ) (lower : off ≤ last) where
+  pub both-0 : (st : State) → st ≡ entry a → program ≡ 0 → finished st 0 ≡ through (entry a) (run m a program limit off) (run m a program limit last)
+  both-0 st e z = rw (sym (run-0 m a program limit off st e z), sym (run-0 m a program limit last st e z))
 
-      pub ops-advance : by ≤ 2 ^ 64 - 1 - at → at + by ≤ off → Sofar m a program limit off st states depth (at + by) next
-      ops-advance f h =
-          sofar-on m a program limit off st states depth at pos s next (Advance n) e st states depth (at + by)
-          (act-advance a off next st states depth at n by is f low h) (s .deep) (s .room) h
+  pub both-begin :
+      (st : State) (states : List State) → st ≡ entry a → length states ≡ maxRemember → (program ≡ 0 → ⊥) →
+      Both m a program limit off last false st st states 0 0 program
+  both-begin st states e room some =
+      record {
+        first = (e, sofar-begin m a program limit off st states e room some);
+        second = sofar-begin m a program limit last st states e room some;
+      }
 
-    module _ (r : Rule) (e : Answer (record { op = Set r; next = next }) ≡ decode m limit pos) where
-      pub ops-set-refused : (n : ℕ) → Outcome.Refused n ≡ follow a r st → run m a program limit off ≡ Outcome.Refused n
-      ops-set-refused n f =
-          sofar-refused m a program limit off st states depth at pos s next (Set r) e n
-          (act-set-refused a off next st states depth at r n f)
+  module _
+      (passed : Bool) (keep st : State) (states : List State) (depth at pos : ℕ)
+      (b : Both m a program limit off last passed keep st states depth at pos)
+    where
+      -- no operation is read
+      pub both-undecoded :
+          (n : ℕ) → Outcome.Refused n ≡ decode m limit pos →
+          stopped passed keep n ≡ through (entry a) (run m a program limit off) (run m a program limit last)
+      both-undecoded n e = go passed (b .first)
+        where
+          second : run m a program limit last ≡ Outcome.Refused n
+          second = sofar-undecoded m a program limit last st states depth at pos (b .second) n e
 
-      pub ops-set : (st′ : State) → Answer st′ ≡ follow a r st → Sofar m a program limit off st′ states depth at next
-      ops-set st′ f =
-          sofar-on m a program limit off st states depth at pos s next (Set r) e st′ states depth at
-          (act-set a off next st states depth at r st′ f) (s .deep) (s .room) (s .within)
+          go : (t : Bool) → First m a program limit off t keep st states depth at pos →
+              stopped t keep n ≡ through (entry a) (run m a program limit off) (run m a program limit last)
+          go true f = rw (f, second)
+          go false f = rw (sofar-undecoded m a program limit off st states depth at pos (f .1) n e, second, f .0)
 
-    module _ (e : Answer (record { op = Remember; next = next }) ≡ decode m limit pos) where
-      pub ops-remember-full : depth ≡ maxRemember → run m a program limit off ≡ Outcome.Refused RememberStackOverflow
-      ops-remember-full f =
-          sofar-refused m a program limit off st states depth at pos s next Remember e _
-          (act-remember-full a off next st states depth at f)
+      -- the operation op, with the address after it
+      module _ (next : ℕ) (op : Op) (e : Answer (record { op = op; next = next }) ≡ decode m limit pos) where
+        pub both-less : limit - next < limit - pos
+        both-less = sofar-less m a program limit last st states depth at pos (b .second) next op e
 
-      pub ops-remember :
-          (depth ≡ maxRemember → ⊥) → Sofar m a program limit off st (ListN.set states depth st) (depth + 1) at next
-      ops-remember f =
-          sofar-on m a program limit off st states depth at pos s next Remember e st (ListN.set states depth st) (depth + 1) at
-          (act-remember a off next st states depth at f (omega (arith, s .deep, s .room))) (omega (arith, s .deep))
-          (simp length-set (s .room)) (s .within)
+        -- and what the first run makes of it
+        same : Sofar m a program limit off st states depth at pos → Lower off (act a last next op (standAt st states depth at)) (act a off next op (standAt st states depth at))
+        same f = act-lower a off last next op (standAt st states depth at) lower (f .within)
 
-    module _ (e : Answer (record { op = Recall; next = next }) ≡ decode m limit pos) where
-      pub ops-recall-none : depth ≡ 0 → run m a program limit off ≡ Outcome.Refused BadEkoRecord
-      ops-recall-none f =
-          sofar-refused m a program limit off st states depth at pos s next Recall e _
-          (act-recall-none a off next st states depth at f)
+        pub both-ends :
+            (r : Ran) → act a last next op (standAt st states depth at) ≡ Ends r → passed ≡ false →
+            finished (r .state) (r .after) ≡ through (entry a) (run m a program limit off) (run m a program limit last)
+        both-ends r t = go passed (b .first)
+          where
+            second : run m a program limit last ≡ Answer r
+            second = sofar-ends m a program limit last st states depth at pos (b .second) next op e r t
 
-      pub ops-recall :
-          (depth ≡ 0 → ⊥) → Sofar m a program limit off (getD states (depth - 1) nothing) states (depth - 1) at next
-      ops-recall f =
-          sofar-on m a program limit off st states depth at pos s next Recall e _ states (depth - 1) at
-          (act-recall a off next st states depth at f) (omega (arith, s .deep)) (s .room) (s .within)
+            go : (x : Bool) → First m a program limit off x keep st states depth at pos → x ≡ false →
+                finished (r .state) (r .after) ≡ through (entry a) (run m a program limit off) (run m a program limit last)
+            go true f p = let z : _≡_ {A = ℕ} 0 1 = cc in absurd (omega arith)
+            go false f p =
+                let low : act a off next op (standAt st states depth at) ≡ Ends r =
+                subst (λ (x : Turn). Lower off x (act a off next op (standAt st states depth at))) t (same (f .1)) in
+                rw (sofar-ends m a program limit off st states depth at pos (f .1) next op e r low, second)
 
--- a run as the code hands it back
-module _ (first : State) (a : Arch) (e : first ≡ entry a) (o : Outcome Ran) where
-  pub ended-refused :
-      (n : ℕ) → o ≡ Outcome.Refused n → record { status = status.Refused n; state = first; after = 0 } ≡ ended (entry a) o
-  ended-refused n p = rw (p, e)
+        pub both-ends-past :
+            (r : Ran) → act a last next op (standAt st states depth at) ≡ Ends r → passed ≡ true →
+            finished keep (r .after) ≡ through (entry a) (run m a program limit off) (run m a program limit last)
+        both-ends-past r t = go passed (b .first)
+          where
+            go : (x : Bool) → First m a program limit off x keep st states depth at pos → x ≡ true →
+                finished keep (r .after) ≡ through (entry a) (run m a program limit off) (run m a program limit last)
+            go true f p = rw (f, sofar-ends m a program limit last st states depth at pos (b .second) next op e r t)
+            go false f p = let z : _≡_ {A = ℕ} 0 1 = cc in absurd (omega arith)
 
-  pub ended-done :
-      (st : State) (after : ℕ) → o ≡ Answer (record { state = st; after = after }) →
-      record { status = status.Done; state = st; after = after } ≡ ended (entry a) o
-  ended-done st after p = rw p
+        pub both-refused :
+            (n : ℕ) → act a last next op (standAt st states depth at) ≡ Refused n →
+            stopped passed keep n ≡ through (entry a) (run m a program limit off) (run m a program limit last)
+        both-refused n t = go passed (b .first)
+          where
+            second : run m a program limit last ≡ Outcome.Refused n
+            second = sofar-refused m a program limit last st states depth at pos (b .second) next op e n t
+
+            go : (x : Bool) → First m a program limit off x keep st states depth at pos →
+                stopped x keep n ≡ through (entry a) (run m a program limit off) (run m a program limit last)
+            go true f = rw (f, second)
+            go false f =
+                let low : act a off next op (standAt st states depth at) ≡ Refused n =
+                subst (λ (x : Turn). Lower off x (act a off next op (standAt st states depth at))) t (same (f .1)) in
+                rw (sofar-refused m a program limit off st states depth at pos (f .1) next op e n low, second, f .0)
+
+        -- it goes on
+        module _
+            (st′ : State) (states′ : List State) (depth′ at′ : ℕ)
+            (t : act a last next op (standAt st states depth at) ≡ On (standAt st′ states′ depth′ at′)) (deep : depth′ ≤ maxRemember)
+            (room : length states′ ≡ maxRemember)
+          where
+            second-on : Sofar m a program limit last st′ states′ depth′ at′ next
+            second-on =
+                sofar-on m a program limit last st states depth at pos (b .second) next op e st′ states′ depth′ at′ t deep room
+                (subst (λ (x : Turn). Within last x) t (act-within a last next op (standAt st states depth at) (b .second .within)))
+
+            low :
+                Sofar m a program limit off st states depth at pos →
+                Lower off (On (standAt st′ states′ depth′ at′)) (act a off next op (standAt st states depth at))
+            low f = subst (λ (x : Turn). Lower off x (act a off next op (standAt st states depth at))) t (same f)
+
+            pub both-on : (off < at′ → passed ≡ true) → Both m a program limit off last passed keep st′ states′ depth′ at′ next
+            both-on h = record { first = go passed (b .first) h; second = second-on }
+              where
+                go : (x : Bool) → First m a program limit off x keep st states depth at pos → (off < at′ → x ≡ true) →
+                    First m a program limit off x keep st′ states′ depth′ at′ next
+                go true f g = f
+                go false f g = (f .0, below (ltb off at′) refl)
+                  where
+                    below : (y : Bool) → ltb off at′ ≡ y → Sofar m a program limit off st′ states′ depth′ at′ next
+                    below true p =
+                        let q : false ≡ true = g (ltb-true off at′ p) in
+                        let z : _≡_ {A = ℕ} 0 1 = cc in absurd (omega arith)
+                    below false p =
+                        let within : at′ ≤ off = ltb-false off at′ p in
+                        sofar-on m a program limit off st states depth at pos (f .1) next op e st′ states′ depth′ at′ (low (f .1) .0 within)
+                        deep room within
+
+            -- past the offset
+            pub both-pass : passed ≡ false → off < at′ → Both m a program limit off last true st′ st′ states′ depth′ at′ next
+            both-pass p h = record { first = go passed (b .first) p; second = second-on }
+              where
+                go : (x : Bool) → First m a program limit off x keep st states depth at pos → x ≡ false →
+                    run m a program limit off ≡ Answer (record { state = st′; after = 0 })
+                go true f q = let z : _≡_ {A = ℕ} 0 1 = cc in absurd (omega arith)
+                go false f q =
+                    sofar-ends m a program limit off st states depth at pos (f .1) next op e (record { state = st′; after = 0 })
+                    (low (f .1) .1 h)
+
+-- a run that was refused, as the code hands it back
+pub ended-refused :
+    (first : State) (a : Arch) → first ≡ entry a → (o : Outcome Ran) (n : ℕ) → o ≡ Outcome.Refused n →
+    record { status = status.Refused n; state = first; after = 0 } ≡ ended (entry a) o
+ended-refused first a e o n p = rw (p, e)
 
 -- the bytes of an advance fit, on both architectures
 pub unit-small : (arch : ℕ) → numbers arch .unit ≤ 4

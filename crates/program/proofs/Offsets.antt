@@ -1,19 +1,25 @@
 -- Laws of a run at two offsets: what differs is only where it ends. Assumes nothing.
 use mathlib.Core.Path.{_≡_, refl, sym, _∙_}
 use mathlib.Core.Bool.{Bool, true, false}
+use mathlib.Core.List.{List, [], _∷_}
 use mathlib.Core.Logic.{_⊎_, inl, inr}
-use Prim.Native.Nat.{ℕ, zero, suc, _+_, _-_, _*_, _^_, _≤_}
+use Prim.Native.Nat.{ℕ, zero, suc, _+_, _-_, _*_, _^_, _≤_, _<_}
 use native.Mathlib.Omega.{arith}
 use lib.Dec.{eqb, ltb, lit≤}
-use borrow.Author.Tests.{le-ltb, ltb-true, ltb-false}
+use lib.ListN.{length}
+use borrow.Author.Tests.{lt-ltb, le-ltb, ltb-true, ltb-false}
+use Rattle.failure.specs.Choice.{if_then_else_}
 use Rattle.failure.specs.Outcome as Outcome
 use Rattle.failure.specs.Outcome.{Outcome, Answer, _>>=_}
+use Rattle.failure.specs.Failure.{BadEkoRecord, RememberStackOverflow}
 use Rattle.mem.specs.Memory.{Memory}
 use Rattle.arch.specs.Arch.{Arch}
+use Rattle.state.specs.declared.State.{State}
 use Rattle.program.specs.declared.decode.Op.{Op}
 use Rattle.program.specs.declared.decode.Op.the-variants.{End, Advance, Set, Remember, Recall}
 use Rattle.program.specs.Operation.{Decoding, decode}
-use Rattle.program.specs.Run.{Stand, Ran, Turn, On, Ends, Refused, advance, act, turned, runFrom, begin, run}
+use Rattle.program.specs.Rule.{follow}
+use Rattle.program.specs.Run.{Stand, Ran, Turn, On, Ends, Refused, maxRemember, advance, recall, set, act, turned, runFrom, begin, run}
 
 -- the run answers
 pub record Answered (o : Outcome Ran) : Type 0 where
@@ -52,6 +58,92 @@ act-offsets a lo hi next (Advance n) s h = advance-offsets lo hi (s .at + n * a 
 act-offsets a lo hi next (Set r) s h = inl refl
 act-offsets a lo hi next Remember s h = inl refl
 act-offsets a lo hi next Recall s h = inl refl
+
+-- what an operation comes to at an offset not passed yet, where it is known at a higher one
+abbrev pub Lower : ℕ → Turn → Turn → Type 0
+Lower lo (On s) t = (s .at ≤ lo → t ≡ On s) × (lo < s .at → t ≡ Ends (stopped s))
+Lower lo (Ends r) t = t ≡ Ends r
+Lower lo (Refused n) t = t ≡ Refused n
+
+pub act-lower :
+    (a : Arch) (lo hi next : ℕ) (op : Op) (s : Stand) → lo ≤ hi → s .at ≤ lo → Lower lo (act a hi next op s) (act a lo next op s)
+unfolding act
+act-lower a lo hi next End s h l = refl
+act-lower a lo hi next (Advance n) s h l = over (ltb (2 ^ 64 - 1) to) refl
+  where
+    to : ℕ
+    to = s .at + n * a .unit
+
+    moved : Stand
+    moved = record { state = s .state; remembered = s .remembered; at = to }
+
+    choice : Bool → Bool → Turn
+    choice x y = if x then Refused BadEkoRecord else if y then Ends (stopped s) else On moved
+
+    past : (y : Bool) → ltb hi to ≡ y → Lower lo (choice false y) (choice false (ltb lo to))
+    past true p = rw (lt-ltb lo to (omega (arith, ltb-true hi to p)))
+    past false p = (λ q. rw (le-ltb lo to q), λ q. rw (lt-ltb lo to q))
+
+    over : (x : Bool) → ltb (2 ^ 64 - 1) to ≡ x → Lower lo (choice (ltb (2 ^ 64 - 1) to) (ltb hi to)) (choice (ltb (2 ^ 64 - 1) to) (ltb lo to))
+    over true p = rw p
+    over false p = rw p (past (ltb hi to) refl)
+act-lower a lo hi next (Set r) s h l = go (follow a r (s .state))
+  where
+    go : (o : Outcome State) → Lower lo (set s o) (set s o)
+    go (Outcome.Refused n) = refl
+    go (Answer st) = (λ q. refl, λ q. absurd (omega arith))
+act-lower a lo hi next Remember s h l = go (eqb (length (s .remembered)) maxRemember)
+  where
+    kept : Stand
+    kept = record { state = s .state; remembered = s .state ∷ s .remembered; at = s .at }
+
+    go : (x : Bool) → Lower lo (if x then Refused RememberStackOverflow else On kept) (if x then Refused RememberStackOverflow else On kept)
+    go true = refl
+    go false = (λ q. refl, λ q. absurd (omega arith))
+act-lower a lo hi next Recall s h l = go (s .remembered)
+  where
+    go : (x : List State) → Lower lo (recall x s) (recall x s)
+    go [] = refl
+    go (st ∷ sts) = (λ q. refl, λ q. absurd (omega arith))
+
+-- a run that goes on is not past its offset
+abbrev pub Within : ℕ → Turn → Type 0
+Within off (On s) = s .at ≤ off
+Within off (Ends r) = Unit
+Within off (Refused n) = Unit
+
+pub act-within : (a : Arch) (off next : ℕ) (op : Op) (s : Stand) → s .at ≤ off → Within off (act a off next op s)
+unfolding act
+act-within a off next End s l = tt
+act-within a off next (Advance n) s l = go (ltb (2 ^ 64 - 1) to) (ltb off to) refl
+  where
+    to : ℕ
+    to = s .at + n * a .unit
+
+    go : (x y : Bool) → ltb off to ≡ y →
+        Within off
+        (if x then Refused BadEkoRecord
+        else if y then Ends (stopped s)
+        else On (record { state = s .state; remembered = s .remembered; at = to }))
+    go true y p = tt
+    go false true p = tt
+    go false false p = ltb-false off to p
+act-within a off next (Set r) s l = go (follow a r (s .state))
+  where
+    go : (o : Outcome State) → Within off (set s o)
+    go (Outcome.Refused n) = tt
+    go (Answer st) = l
+act-within a off next Remember s l = go (eqb (length (s .remembered)) maxRemember)
+  where
+    go : (x : Bool) →
+        Within off (if x then Refused RememberStackOverflow else On (record { state = s .state; remembered = s .state ∷ s .remembered; at = s .at }))
+    go true = tt
+    go false = l
+act-within a off next Recall s l = go (s .remembered)
+  where
+    go : (x : List State) → Within off (recall x s)
+    go [] = tt
+    go (st ∷ sts) = l
 
 module _ (m : Memory) (a : Arch) (limit lo hi : ℕ) (below : lo ≤ hi) where
   lower-from : (left pos : ℕ) (s : Stand) → Answered (runFrom left m a limit hi pos s) → Answered (runFrom left m a limit lo pos s)

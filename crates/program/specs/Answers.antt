@@ -1,5 +1,7 @@
 -- Document 01's number and values for each case of this crate's answers.
-use mathlib.Core.List.{List}
+use mathlib.Core.Path.{_≡_}
+use mathlib.Core.Bool.{Bool, true, false}
+use mathlib.Core.List.{List, _∷_}
 use Prim.Native.Nat.{ℕ}
 use Rattle.failure.specs.Outcome as Outcome
 use Rattle.failure.specs.Outcome.{Outcome, Answer}
@@ -15,7 +17,11 @@ use Rattle.program.specs.declared.Status.the-variants as status
 use Rattle.program.specs.declared.Followed.{Followed}
 use Rattle.program.specs.declared.Ended.{Ended}
 use Rattle.program.specs.Operation.{Decoding}
-use Rattle.program.specs.Run.{Ran}
+use Rattle.program.specs.declared.Through.{Through}
+use Rattle.program.specs.declared.Step.{Step}
+use Rattle.program.specs.declared.Step.the-variants as step
+use Rattle.program.specs.Run as Run
+use Rattle.program.specs.Run.{Ran, Turn, On, Ends, recall, maxRemember}
 
 -- a number and the address after it
 abbrev pub told : Number → Outcome Read
@@ -36,7 +42,44 @@ followedBy (status.Refused n) st = Outcome.Refused n
 abbrev pub followed : Followed → List ℕ → List ℕ → Outcome State
 followed f regs slots = followedBy (f .status) (stateOf (f .fp) (f .units) (f .count) regs slots)
 
+-- an operation, where the code has the next state and leaves the rest to the loop
+abbrev pub stepped : Step → State → List State → ℕ → Turn
+stepped (step.At to) st states at = On (record { state = st; remembered = states; at = to })
+stepped step.Set st states at = On (record { state = st; remembered = states; at = at })
+stepped step.Remember st states at = On (record { state = st; remembered = st ∷ states; at = at })
+stepped step.Recall st states at = recall states (record { state = st; remembered = states; at = at })
+stepped (step.Ends after) st states at = Ends (record { state = st; after = after })
+stepped (step.Refused n) st states at = Run.Refused n
+
+-- the loop has room for a state that it remembers, and one to recall
+abbrev pub Room : Step → ℕ → Type 0
+Room (step.At to) depth = Unit
+Room step.Set depth = Unit
+Room step.Remember depth = depth ≡ maxRemember → ⊥
+Room step.Recall depth = depth ≡ 0 → ⊥
+Room (step.Ends after) depth = Unit
+Room (step.Refused n) depth = Unit
+
 -- a run as the code hands it back: for a refusal the entry state, and after-address 0
 abbrev pub ended : State → Outcome Ran → Ended
 ended entry (Outcome.Refused n) = record { status = status.Refused n; state = entry; after = 0 }
 ended entry (Answer r) = record { status = status.Done; state = r .state; after = r .after }
+
+-- two runs as the code hands them back together: the status and the state of the first, the status and the after-address of the second
+abbrev pub through : State → Outcome Ran → Outcome Ran → Through
+through entry x y =
+    record {
+      status = ended entry x .status;
+      state = ended entry x .state;
+      end = ended entry y .status;
+      after = ended entry y .after;
+    }
+
+-- two runs that both give this
+abbrev pub finished : State → ℕ → Through
+finished st after = record { status = status.Done; state = st; end = status.Done; after = after }
+
+-- a second run that was refused, after the first had ended or before
+abbrev pub stopped : Bool → State → ℕ → Through
+stopped true st n = record { status = status.Done; state = st; end = status.Refused n; after = 0 }
+stopped false st n = record { status = status.Refused n; state = st; end = status.Refused n; after = 0 }

@@ -3,10 +3,12 @@
 // any architecture but 1 stands for 2 there.
 ghost use mathlib.Core.Path.{_≡_};
 ghost use mathlib.Core.List.{List};
-ghost use Prim.Native.Nat.{ℕ};
+ghost use Prim.Native.Nat.{ℕ, _≤_, _-_, _^_};
+ghost use lib.ListN.{length};
 ghost use Rattle.failure.specs.Outcome.{Answer};
 ghost use Rattle.mem.specs.Memory.{lent};
 ghost use Rattle.arch.specs.Arch.{numbers};
+ghost use Rattle.state.specs.declared.State.{State};
 ghost use Rattle.state.specs.State.{stateOf, entry};
 ghost use Rattle.state.specs.Save as Save;
 ghost use Rattle.state.specs.Restore as Restore;
@@ -14,7 +16,7 @@ ghost use Rattle.state.specs.Answers.{changed, nextIn, told};
 ghost use Rattle.program.specs.Rule as Rules;
 ghost use Rattle.program.specs.Run as Run;
 ghost use Rattle.program.specs.Public as Public;
-ghost use Rattle.program.specs.Answers.{followed, ended};
+ghost use Rattle.program.specs.Answers.{followed, stepped, Room, finished, stopped, ended, through};
 use arch::is_known;
 use arch::numbers;
 use decode::Decoded;
@@ -57,6 +59,35 @@ pub struct Ended {
     pub status: Status,
     pub state: State,
     pub after: usize,
+}
+
+// What two runs give, one up to an offset and one up to the same or a later one: the status and the state of the first, and the
+// status and the after-address of the second.
+pub struct Through {
+    pub status: Status,
+    pub state: State,
+    pub end: Status,
+    pub after: usize,
+}
+
+// What an operation leaves to the loop: to go on at an offset, or with other rules; to remember the state, or to recall one; to end
+// with an after-address, or to refuse.
+enum Step {
+    At(usize),
+    Set,
+    Remember,
+    Recall,
+    Ends(usize),
+    Refused(u32),
+}
+
+// The step after an operation, and the base, units and count of the state, whose pairs are in place; beside a refusal nothing is
+// said of them.
+struct Acted {
+    step: Step,
+    fp: bool,
+    units: u32,
+    count: usize,
 }
 
 // A change of pairs as document 01 answers it.
@@ -250,6 +281,262 @@ fn follow<'a, 'b>(
     }
 }
 
+// An operation, with the address after it, in a run up to an offset. What is remembered is left to the loop.
+fn act<'a, 'b>(
+    regs: &'a mut [u16; 32],
+    slots: &'b mut [u16; 32],
+    count: usize,
+    fp: bool,
+    units: u32,
+    depth: usize,
+    at: usize,
+    arch: u8,
+    off: usize,
+    next: usize,
+    op: Op,
+) -> Acted
+    ensures { λ r. ⌜
+        ((states : List State) → length states ≡ depth →
+        stepped (r .step) (stateOf (r .fp) (r .units) (r .count) (now (regs .exit)) (now (slots .exit))) states at ≡
+        Run.act (numbers arch) off next op
+        (record { state = stateOf fp units count (now (regs .entry)) (now (slots .entry)); remembered = states; at = at }))
+        × Room (r .step) depth
+        ⌝ }
+{
+    match op {
+        Op::End => Acted {
+            step: Step::Ends(next),
+            fp,
+            units,
+            count,
+        },
+        Op::Advance(n) => {
+            let a = numbers(arch);
+            let by = n as usize * a.unit;
+            if usize::MAX - at < by {
+                return Acted {
+                    step: Step::Refused(BAD_EKO_RECORD),
+                    fp,
+                    units,
+                    count,
+                };
+            }
+            if off < at + by {
+                return Acted {
+                    step: Step::Ends(0),
+                    fp,
+                    units,
+                    count,
+                };
+            }
+            Acted {
+                step: Step::At(at + by),
+                fp,
+                units,
+                count,
+            }
+        }
+        Op::Set(rule) => {
+            let followed = follow(regs, slots, count, fp, units, arch, rule);
+            let status = followed.status;
+            match status {
+                Status::Done => Acted {
+                    step: Step::Set,
+                    fp: followed.fp,
+                    units: followed.units,
+                    count: followed.count,
+                },
+                Status::Refused(n) => Acted {
+                    step: Step::Refused(n),
+                    fp,
+                    units,
+                    count,
+                },
+            }
+        }
+        Op::Remember => {
+            if depth == MAX_REMEMBER {
+                return Acted {
+                    step: Step::Refused(REMEMBER_STACK_OVERFLOW),
+                    fp,
+                    units,
+                    count,
+                };
+            }
+            Acted {
+                step: Step::Remember,
+                fp,
+                units,
+                count,
+            }
+        }
+        Op::Recall => {
+            if depth == 0 {
+                return Acted {
+                    step: Step::Refused(BAD_EKO_RECORD),
+                    fp,
+                    units,
+                    count,
+                };
+            }
+            Acted {
+                step: Step::Recall,
+                fp,
+                units,
+                count,
+            }
+        }
+    }
+}
+
+// What a run gives that ended with a state, at both offsets.
+fn done(state: State, after: usize) -> Through
+    ensures { λ r. ⌜ r ≡ finished state after ⌝ }
+{
+    Through {
+        status: Status::Done,
+        state,
+        end: Status::Done,
+        after,
+    }
+}
+
+// What a run gives that was refused, past the first offset or not.
+fn refused(kept: State, passed: bool, n: u32) -> Through
+    ensures { λ r. ⌜ r ≡ stopped passed kept n ⌝ }
+{
+    if passed {
+        return Through {
+            status: Status::Done,
+            state: kept,
+            end: Status::Refused(n),
+            after: 0,
+        };
+    }
+    Through {
+        status: Status::Refused(n),
+        state: kept,
+        end: Status::Refused(n),
+        after: 0,
+    }
+}
+
+// Two runs of the program at an address in one: the state at an offset, and the end at the same or a later one. Program 0 is
+// the entry state everywhere.
+fn run_both<'a>(
+    section: &'a [u8],
+    section_base: usize,
+    stack: &'a [u8],
+    stack_base: usize,
+    arch: u8,
+    program: usize,
+    limit: usize,
+    off: usize,
+    last: usize,
+) -> Through
+    requires { ⌜ off ≤ last ⌝ }
+    ensures { λ r. ⌜
+        r ≡
+        through (entry (numbers arch))
+        (Run.run (lent (now (section .entry)) «section_base» (now (stack .entry)) «stack_base» .regions) (numbers arch) program limit off)
+        (Run.run (lent (now (section .entry)) «section_base» (now (stack .entry)) «stack_base» .regions) (numbers arch) program limit last)
+        ⌝ }
+{
+    // the state at the offset, once the run has passed it, and the entry state until then
+    let mut kept = at_entry(arch);
+    if program == 0 {
+        return done(kept, 0);
+    }
+    let mut passed = false;
+    let mut fp = kept.cfa_fp;
+    let mut units = kept.cfa_units;
+    let mut count = kept.count;
+    let mut regs = kept.regs;
+    let mut slots = kept.slots;
+    let mut remembered = [kept; 4];
+    let mut depth: usize = 0;
+    let mut at: usize = 0;
+    let mut pos = program;
+    'ops: loop {
+        match decode(section, section_base, stack, stack_base, pos, limit) {
+            Decoded::Is(op, next) => {
+                pos = next;
+                let acted = act(
+                    &mut regs,
+                    &mut slots,
+                    count,
+                    fp,
+                    units,
+                    depth,
+                    at,
+                    arch,
+                    last,
+                    next,
+                    op,
+                );
+                fp = acted.fp;
+                units = acted.units;
+                count = acted.count;
+                let step = acted.step;
+                match step {
+                    Step::At(to) => {
+                        at = to;
+                        if off < to {
+                            if !passed {
+                                passed = true;
+                                kept = State {
+                                    cfa_fp: fp,
+                                    cfa_units: units,
+                                    count,
+                                    regs,
+                                    slots,
+                                };
+                            }
+                        }
+                    }
+                    Step::Set => {}
+                    Step::Remember => {
+                        remembered[depth] = State {
+                            cfa_fp: fp,
+                            cfa_units: units,
+                            count,
+                            regs,
+                            slots,
+                        };
+                        depth += 1;
+                    }
+                    Step::Recall => {
+                        depth -= 1;
+                        let st = remembered[depth];
+                        fp = st.cfa_fp;
+                        units = st.cfa_units;
+                        count = st.count;
+                        regs = st.regs;
+                        slots = st.slots;
+                    }
+                    Step::Ends(after) => {
+                        if passed {
+                            break 'ops done(kept, after);
+                        }
+                        break 'ops done(
+                            State {
+                                cfa_fp: fp,
+                                cfa_units: units,
+                                count,
+                                regs,
+                                slots,
+                            },
+                            after,
+                        );
+                    }
+                    Step::Refused(n) => break 'ops refused(kept, passed, n),
+                }
+            }
+            Decoded::Refused(n) => break 'ops refused(kept, passed, n),
+        }
+    }
+}
+
 // A run of the program at an address up to an offset; program 0 is the entry state everywhere.
 pub fn run_program<'a>(
     section: &'a [u8],
@@ -267,123 +554,57 @@ pub fn run_program<'a>(
         (Run.run (lent (now (section .entry)) «section_base» (now (stack .entry)) «stack_base» .regions) (numbers arch) program limit off)
         ⌝ }
 {
-    let entry = at_entry(arch);
-    if program == 0 {
-        return Ended {
-            status: Status::Done,
-            state: entry,
-            after: 0,
-        };
+    let both = run_both(
+        section,
+        section_base,
+        stack,
+        stack_base,
+        arch,
+        program,
+        limit,
+        off,
+        off,
+    );
+    let status = both.status;
+    let state = both.state;
+    Ended {
+        status,
+        state,
+        after: both.after,
     }
-    let a = numbers(arch);
-    let unit = a.unit;
-    let mut fp = entry.cfa_fp;
-    let mut units = entry.cfa_units;
-    let mut count = entry.count;
-    let mut regs = entry.regs;
-    let mut slots = entry.slots;
-    let mut remembered = [entry; 4];
-    let mut depth: usize = 0;
-    let mut at: usize = 0;
-    let mut pos = program;
-    'ops: loop {
-        match decode(section, section_base, stack, stack_base, pos, limit) {
-            Decoded::Is(op, next) => {
-                pos = next;
-                match op {
-                    Op::End => break 'ops Ended {
-                        status: Status::Done,
-                        state: State {
-                            cfa_fp: fp,
-                            cfa_units: units,
-                            count,
-                            regs,
-                            slots,
-                        },
-                        after: next,
-                    },
-                    Op::Advance(n) => {
-                        let by = n as usize * unit;
-                        if usize::MAX - at < by {
-                            break 'ops Ended {
-                                status: Status::Refused(BAD_EKO_RECORD),
-                                state: entry,
-                                after: 0,
-                            };
-                        }
-                        if off < at + by {
-                            break 'ops Ended {
-                                status: Status::Done,
-                                state: State {
-                                    cfa_fp: fp,
-                                    cfa_units: units,
-                                    count,
-                                    regs,
-                                    slots,
-                                },
-                                after: 0,
-                            };
-                        }
-                        at += by;
-                    }
-                    Op::Set(rule) => {
-                        let followed = follow(&mut regs, &mut slots, count, fp, units, arch, rule);
-                        let status = followed.status;
-                        match status {
-                            Status::Done => {
-                                fp = followed.fp;
-                                units = followed.units;
-                                count = followed.count;
-                            }
-                            Status::Refused(n) => break 'ops Ended {
-                                status: Status::Refused(n),
-                                state: entry,
-                                after: 0,
-                            },
-                        }
-                    }
-                    Op::Remember => {
-                        if depth == MAX_REMEMBER {
-                            break 'ops Ended {
-                                status: Status::Refused(REMEMBER_STACK_OVERFLOW),
-                                state: entry,
-                                after: 0,
-                            };
-                        }
-                        remembered[depth] = State {
-                            cfa_fp: fp,
-                            cfa_units: units,
-                            count,
-                            regs,
-                            slots,
-                        };
-                        depth += 1;
-                    }
-                    Op::Recall => {
-                        if depth == 0 {
-                            break 'ops Ended {
-                                status: Status::Refused(BAD_EKO_RECORD),
-                                state: entry,
-                                after: 0,
-                            };
-                        }
-                        depth -= 1;
-                        let st = remembered[depth];
-                        fp = st.cfa_fp;
-                        units = st.cfa_units;
-                        count = st.count;
-                        regs = st.regs;
-                        slots = st.slots;
-                    }
-                }
-            }
-            Decoded::Refused(n) => break 'ops Ended {
-                status: Status::Refused(n),
-                state: entry,
-                after: 0,
-            },
-        }
-    }
+}
+
+// Two runs of the program at an address in one pass: the status and the state of the one up to an offset, and the status and the
+// after-address of the one through all offsets.
+pub fn run_through<'a>(
+    section: &'a [u8],
+    section_base: usize,
+    stack: &'a [u8],
+    stack_base: usize,
+    arch: u8,
+    program: usize,
+    limit: usize,
+    off: usize,
+) -> Through
+    ensures { λ r. ⌜
+        r ≡
+        through (entry (numbers arch))
+        (Run.run (lent (now (section .entry)) «section_base» (now (stack .entry)) «stack_base» .regions) (numbers arch) program limit off)
+        (Run.run (lent (now (section .entry)) «section_base» (now (stack .entry)) «stack_base» .regions) (numbers arch) program limit
+        (2 ^ 64 - 1))
+        ⌝ }
+{
+    run_both(
+        section,
+        section_base,
+        stack,
+        stack_base,
+        arch,
+        program,
+        limit,
+        off,
+        usize::MAX,
+    )
 }
 
 // A run of the program at an address up to an offset, in what is lent. For an unknown architecture the entry state is that of

@@ -1,43 +1,71 @@
 -- The columns of the saved registers. Assumes nothing.
-use mathlib.Core.Path.{_≡_, refl, sym}
+use mathlib.Core.Path.{_≡_, refl, sym, subst}
 use mathlib.Core.List.{List, [], _∷_}
-use Prim.Native.Nat.{ℕ, zero, suc, _<_}
+use Prim.Native.Nat.{ℕ, zero, suc, _+_, _≤_, _<_}
 use native.Mathlib.Omega.{arith}
-use lib.Dec.{lit<}
+use lib.Dec.{eqb, ltb, lit<}
 use lib.ListN.{length, getD}
+use borrow.Author.Tests.{lt-ltb, le-ltb, eq-eqb, ne-eqb}
+use Rattle.failure.specs.Choice.{if_then_else_}
 use Rattle.failure.specs.Outcome.{Answer}
 use Rattle.arch.specs.Arch.{Arch, aarch64, x86-64}
 use Rattle.arch.specs.File.{columns, columnOf}
 
--- each register's column stands at its place
-abbrev Each : Arch → List ℕ → List ℕ → Type 0
-Each a [] ks = Unit
-Each a (reg ∷ regs) [] = ⊥
-Each a (reg ∷ regs) (k ∷ ks) = (columnOf a reg ≡ Answer k) × (k < columns) × Each a regs ks
+-- the registers' columns are those that f gives from place k on
+abbrev Each : Arch → (ℕ → ℕ) → ℕ → List ℕ → Type 0
+Each a f k [] = Unit
+Each a f k (reg ∷ regs) = (columnOf a reg ≡ Answer (f k)) × (f k < columns) × Each a f (suc k) regs
 
 each-at :
-    (a : Arch) (regs ks : List ℕ) → Each a regs ks → (i : ℕ) → i < length regs →
-    (Answer (getD ks i 0) ≡ columnOf a (getD regs i 0)) × (getD ks i 0 < columns)
-each-at a [] ks e i h = absurd (omega arith)
-each-at a (reg ∷ regs) [] e i h = absurd e
-each-at a (reg ∷ regs) (k ∷ ks) e zero h = (sym (e .0), e .1)
-each-at a (reg ∷ regs) (k ∷ ks) e (suc i) h = each-at a regs ks (e .2) i (omega arith)
+    (a : Arch) (f : ℕ → ℕ) (k : ℕ) (regs : List ℕ) → Each a f k regs → (i : ℕ) → i < length regs →
+    (Answer (f (k + i)) ≡ columnOf a (getD regs i 0)) × (f (k + i) < columns)
+each-at a f k [] e i h = absurd (omega arith)
+each-at a f k (reg ∷ regs) e zero h =
+    let z : k ≡ k + 0 = omega arith in
+    subst (λ (j : ℕ). (Answer (f j) ≡ columnOf a reg) × (f j < columns)) z (sym (e .0), e .1)
+each-at a f k (reg ∷ regs) e (suc i) h =
+    let z : suc k + i ≡ k + suc i = omega arith in
+    subst (λ (j : ℕ). (Answer (f j) ≡ columnOf a (getD regs i 0)) × (f j < columns)) z
+    (each-at a f (suc k) regs (e .2) i (omega arith))
 
--- the columns of the aarch64 table
-pub column-aarch64 :
+-- bits 0 to 9 name registers 19 to 28, the others 72 to 79, which stand from column 32 on
+abbrev column-aarch64 : ℕ → ℕ
+column-aarch64 i = if ltb i 10 then 19 + i else 22 + i
+
+columns-aarch64 :
     (i : ℕ) → i < 18 →
-    (Answer (getD (19 ∷ 20 ∷ 21 ∷ 22 ∷ 23 ∷ 24 ∷ 25 ∷ 26 ∷ 27 ∷ 28 ∷ 32 ∷ 33 ∷ 34 ∷ 35 ∷ 36 ∷ 37 ∷ 38 ∷ 39 ∷ []) i 0) ≡ columnOf aarch64 (getD (aarch64 .saved) i 0)) ×
-    (getD (19 ∷ 20 ∷ 21 ∷ 22 ∷ 23 ∷ 24 ∷ 25 ∷ 26 ∷ 27 ∷ 28 ∷ 32 ∷ 33 ∷ 34 ∷ 35 ∷ 36 ∷ 37 ∷ 38 ∷ 39 ∷ []) i 0 < columns)
+    (Answer (column-aarch64 i) ≡ columnOf aarch64 (getD (aarch64 .saved) i 0)) × (column-aarch64 i < columns)
 unfolding columnOf
-column-aarch64 i h =
-    each-at aarch64 (aarch64 .saved) (19 ∷ 20 ∷ 21 ∷ 22 ∷ 23 ∷ 24 ∷ 25 ∷ 26 ∷ 27 ∷ 28 ∷ 32 ∷ 33 ∷ 34 ∷ 35 ∷ 36 ∷ 37 ∷ 38 ∷ 39 ∷ [])
+columns-aarch64 i h =
+    let z : 0 + i ≡ i = omega arith in
+    subst (λ (j : ℕ). (Answer (column-aarch64 j) ≡ columnOf aarch64 (getD (aarch64 .saved) i 0)) × (column-aarch64 j < columns)) z
+    (each-at aarch64 column-aarch64 0 (aarch64 .saved)
     (refl, lit< tt, (refl, lit< tt, (refl, lit< tt, (refl, lit< tt, (refl, lit< tt, (refl, lit< tt, (refl, lit< tt, (refl, lit< tt, (refl, lit< tt, (refl, lit< tt, (refl, lit< tt, (refl, lit< tt, (refl, lit< tt, (refl, lit< tt, (refl, lit< tt, (refl, lit< tt, (refl, lit< tt, (refl, lit< tt, tt))))))))))))))))))
-    i h
+    i h)
 
--- and of the x86-64 table
-pub column-x86-64 :
-    (i : ℕ) → i < 5 →
-    (Answer (getD (3 ∷ 12 ∷ 13 ∷ 14 ∷ 15 ∷ []) i 0) ≡ columnOf x86-64 (getD (x86-64 .saved) i 0)) ×
-    (getD (3 ∷ 12 ∷ 13 ∷ 14 ∷ 15 ∷ []) i 0 < columns)
+-- bit 0 names register 3, the others 12 to 15
+abbrev column-x86-64 : ℕ → ℕ
+column-x86-64 i = if eqb i 0 then 3 else 11 + i
+
+columns-x86-64 :
+    (i : ℕ) → i < 5 → (Answer (column-x86-64 i) ≡ columnOf x86-64 (getD (x86-64 .saved) i 0)) × (column-x86-64 i < columns)
 unfolding columnOf
-column-x86-64 i h = each-at x86-64 (x86-64 .saved) (3 ∷ 12 ∷ 13 ∷ 14 ∷ 15 ∷ []) (refl, lit< tt, (refl, lit< tt, (refl, lit< tt, (refl, lit< tt, (refl, lit< tt, tt))))) i h
+columns-x86-64 i h =
+    let z : 0 + i ≡ i = omega arith in
+    subst (λ (j : ℕ). (Answer (column-x86-64 j) ≡ columnOf x86-64 (getD (x86-64 .saved) i 0)) × (column-x86-64 j < columns)) z
+    (each-at x86-64 column-x86-64 0 (x86-64 .saved) (refl, lit< tt, (refl, lit< tt, (refl, lit< tt, (refl, lit< tt, (refl, lit< tt, tt))))) i h)
+
+-- the same by the tests of the code
+pub low-aarch64 : (i : ℕ) → i < 10 → (Answer (19 + i) ≡ columnOf aarch64 (getD (aarch64 .saved) i 0)) × (19 + i < columns)
+low-aarch64 i h = let both = columns-aarch64 i (omega arith) in rw (lt-ltb i 10 h) at both
+
+pub high-aarch64 :
+    (i : ℕ) → i < 18 → 10 ≤ i → (Answer (22 + i) ≡ columnOf aarch64 (getD (aarch64 .saved) i 0)) × (22 + i < columns)
+high-aarch64 i h l = let both = columns-aarch64 i h in rw (le-ltb i 10 l) at both
+
+pub low-x86-64 : (i : ℕ) → i ≡ 0 → (Answer 3 ≡ columnOf x86-64 (getD (x86-64 .saved) i 0)) × (3 < columns)
+low-x86-64 i z = let both = columns-x86-64 i (omega arith) in rw (eq-eqb i 0 z) at both
+
+pub high-x86-64 :
+    (i : ℕ) → i < 5 → (i ≡ 0 → ⊥) → (Answer (11 + i) ≡ columnOf x86-64 (getD (x86-64 .saved) i 0)) × (11 + i < columns)
+high-x86-64 i h l = let both = columns-x86-64 i h in rw (ne-eqb i 0 l) at both

@@ -27,6 +27,10 @@ use Rattle.frame.proofs.Named.{named-zero}
 use Rattle.frame.proofs.Passes.{Passing, leaf-word, fp-word, sp-word, passing, Turned, turned}
 use Rattle.frame.specs.Near.{Near, slotIn, deepest}
 
+-- a test that fails tells nothing
+pub no : (A : Type 0) → false ≡ true → A
+no A e = let z : _≡_ {A = ℕ} 0 1 = cc in absurd (omega arith)
+
 -- a read of eight bytes of the stack
 pub part-read :
     (stack : List ℕ) (k e : ℕ) (w : Word) → loaded w ≡ wordIn 8 (take (e - k) (drop k stack)) → e ≡ k + 8 → e ≤ length stack →
@@ -63,25 +67,24 @@ module _ (section : List ℕ) (sectionBase : ℕ) (stack : List ℕ) (stackBase 
   pub near-less : (d : ℕ) → d ≤ depth → Near section sectionBase stack stackBase at d
   near-less d h =
       record {
-        low = omega (arith, near .low);
-        high = near .high;
-        apart = ⊎-elim (λ (e : sectionBase + length section + 8 * depth ≤ at). inl (omega arith)) (λ (e : at ≤ sectionBase). inr e) (near .apart);
+        inStack = record { low = omega (arith, near .inStack .low); high = near .inStack .high };
+        off = ⊎-elim (λ (e : sectionBase + length section + 8 * depth ≤ at). inl (omega arith)) (λ (e : at ≤ sectionBase). inr e) (near .off);
       }
 
   module _ (slot : ℕ) (some : 0 < slot) (few : slot ≤ depth) (fits : at < 2 ^ 64) where
     -- the address of a slot
     address : difference at (8 * slot) ≡ at - 8 * slot
-    address = omega (arith, near .low)
+    address = omega (arith, near .inStack .low)
 
     not-section : holds sectionBase (length section) (at - 8 * slot) 8 ≡ false
     not-section =
         ⊎-elim
         (λ (e : sectionBase + length section + 8 * depth ≤ at). past-end sectionBase (length section) (at - 8 * slot) (omega arith))
-        (λ (e : at ≤ sectionBase). before-start sectionBase (length section) (at - 8 * slot) (omega (arith, near .low)))
-        (near .apart)
+        (λ (e : at ≤ sectionBase). before-start sectionBase (length section) (at - 8 * slot) (omega (arith, near .inStack .low)))
+        (near .off)
 
     in-stack : holds stackBase (length stack) (at - 8 * slot) 8 ≡ true
-    in-stack = holds-when stackBase (length stack) (at - 8 * slot) 8 (omega (arith, near .low)) (omega (arith, near .low, near .high))
+    in-stack = holds-when stackBase (length stack) (at - 8 * slot) 8 (omega (arith, near .inStack .low)) (omega (arith, near .inStack .low, near .inStack .high))
 
     -- a slot that is near is read from the stack
     pub near-loads :
@@ -89,7 +92,7 @@ module _ (section : List ℕ) (sectionBase : ℕ) (stack : List ℕ) (stackBase 
         Answer v ≡ loadSlot (lent section sectionBase stack stackBase .regions) at slot
     unfolding loadSlot load bytesAt
     near-loads v is =
-        let k : at - stackBase - 8 * slot ≡ at - 8 * slot - stackBase = omega (arith, near .low) in
+        let k : at - stackBase - 8 * slot ≡ at - 8 * slot - stackBase = omega (arith, near .inStack .low) in
         rw (address, not-section, in-stack) (ap Answer (is ∙ ap (λ (i : ℕ). littleEndian (take 8 (drop i stack))) k))
 
 -- the deepest slot, by the first slot
@@ -109,41 +112,6 @@ deepest-bounds frame n = go (ltb (firstSlot frame + n) 3) refl
     go : (t : Bool) → ltb (firstSlot frame + n) 3 ≡ t → (2 ≤ deepest frame n) × (firstSlot frame + n ≤ deepest frame n + 1)
     go true e = let h = ltb-true (firstSlot frame + n) 3 e in rw e (omega arith, omega arith)
     go false e = let h = ltb-false (firstSlot frame + n) 3 e in rw e (omega arith, omega arith)
-
--- a word that has a CFA saves no register in slot 0
-pub first-some :
-    (a : Arch) (frame : ℕ) (first : Bool) (file : List ℕ) (at n : ℕ) → Answer at ≡ frameCfa a frame first file →
-    n ≡ length (named (mask frame) (a .saved)) → 0 < n → 0 < firstSlot frame
-first-some a frame first file at n e is some = go (passes a frame first) refl
-  where
-    refused : (x : ℕ) → frameCfa a frame first file ≡ Refused x → 0 < firstSlot frame
-    refused x p =
-        let q : _≡_ {A = Outcome ℕ} (Answer at) (Refused x) = e ∙ p in
-        let z : _≡_ {A = ℕ} 0 1 = cc in
-        absurd (omega arith)
-
-    masked : mask frame ≡ 0 → 0 < firstSlot frame
-    masked z =
-        let l : n ≡ 0 = is ∙ rw (z, named-zero (a .saved)) in
-        absurd (omega arith)
-
-    high : (t s : Bool) → ltb (param frame) 3 ≡ t → eqb (mask frame) 0 ≡ s → (t && not s) ≡ false → kind frame ≡ onFp → 0 < firstSlot frame
-    high true true l z p k = masked (eqb-true (mask frame) 0 z)
-    high true false l z p k = let q : _≡_ {A = ℕ} 0 1 = cc in absurd (omega arith)
-    high false s l z p k = let h = ltb-false (param frame) 3 l in rw k (omega arith)
-
-    passed : Passing a frame first → 0 < firstSlot frame
-    passed (leaf-word past f k z) = masked z
-    passed (fp-word past f k low) = high (ltb (param frame) 3) (eqb (mask frame) 0) refl refl low k
-    passed (sp-word past f k) = rw k (lit< tt)
-
-    turnedBack : Turned a frame first file → 0 < firstSlot frame
-    turnedBack (inl p) = refused BadEkoRecord p
-    turnedBack (inr p) = refused EkoAsyncFrame p
-
-    go : (t : Bool) → passes a frame first ≡ t → 0 < firstSlot frame
-    go true p = passed (passing a frame first p)
-    go false p = turnedBack (turned a frame first file p)
 
 -- the slot of a saved register is near
 pub slot-bounds :

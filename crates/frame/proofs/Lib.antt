@@ -15,3 +15,5 @@ pub mod ReadAs
 pub mod SameSlots
 pub mod InStack
 pub mod Columns
+pub mod Saves
+pub mod Partly

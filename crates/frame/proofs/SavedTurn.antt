@@ -1,21 +1,26 @@
 -- The loop over the bits of a mask: what is left after some of them. Assumes nothing.
-use mathlib.Core.Path.{_≡_, refl, sym, _∙_, ap}
+use mathlib.Core.Path.{_≡_, refl, sym, _∙_, ap, subst}
+use mathlib.Core.Logic.{⊎-elim}
 use mathlib.Core.Bool.{Bool, true, false}
 use mathlib.Core.List.{List, [], _∷_}
-use Prim.Native.Nat.{ℕ, _+_, _-_, _%_, _/_, _≤_, _<_}
+use Prim.Native.Nat.{ℕ, suc, _+_, _-_, _%_, _/_, _^_, _≤_, _<_}
+use native.Mathlib.Nat.{pow-suc}
 use native.Mathlib.Omega.{arith}
 use lib.ListN as ListN
 use lib.ListN.{length, getD, drop}
 use Rattle.failure.specs.Choice.{if_then_else_}
 use Rattle.failure.specs.Outcome.{Outcome, Refused, Answer}
 use Rattle.mem.specs.Memory.{Memory}
+use Rattle.mem.proofs.Tests.{lt-or-le}
 use Rattle.arch.specs.Arch.{Arch}
 use Rattle.frame.specs.Layout.{Pair}
 use Rattle.frame.specs.Apply.{restorePairs}
 use Rattle.frame.specs.Frame.{reversed, mask, firstSlot, named, rising, falling, slotOf, savedPairs}
+use Rattle.frame.specs.Near.{Saves}
 use Rattle.frame.specs.Answers.{cellOf}
 use Rattle.frame.proofs.Pairs.{restore-set, restore-refused}
-use Rattle.frame.proofs.Named.{named-set, named-clear, named-end, named-zero}
+use Rattle.frame.proofs.Named.{named-set, named-clear, named-zero}
+use Rattle.frame.proofs.Saves.{mask-within}
 
 -- the registers that are left after k of them, with their slots
 abbrev pub slotsFrom : ℕ → ℕ → List ℕ → List Pair
@@ -42,15 +47,16 @@ pub record SavedTurn (a : Arch) (m : Memory) (at frame n : ℕ) (whole : Outcome
     : Type 0 where
   pub left : whole ≡ restorePairs a m at (slotsFrom frame k (named rest (drop bit (a .saved)))) file
   pub count : k + length (named rest (drop bit (a .saved))) ≡ n
+  pub within : rest < 2 ^ (length (a .saved) - bit)
 
 -- at first all are left
 pub saved-begin :
-    (a : Arch) (m : Memory) (at frame n : ℕ) (file : List ℕ) (rest : ℕ) → rest ≡ mask frame →
-    n ≡ length (named (mask frame) (a .saved)) →
+    (a : Arch) (m : Memory) (at frame n : ℕ) (file : List ℕ) (rest : ℕ) → rest ≡ mask frame → Saves a frame n →
     SavedTurn a m at frame n (restorePairs a m at (savedPairs a frame) file) file rest 0 0
 unfolding savedPairs
 saved-begin a m at frame n file rest is e =
     let s : firstSlot frame ≡ firstSlot frame + 0 = omega arith in
+    let z : length (a .saved) ≡ length (a .saved) - 0 = omega arith in
     record {
       left =
           rw is
@@ -58,7 +64,8 @@ saved-begin a m at frame n file rest is e =
           restorePairs a m at
           (if reversed frame then falling (firstSlot frame) (named (mask frame) (a .saved)) else rising k (named (mask frame) (a .saved))) file)
           s);
-      count = rw is (omega arith);
+      count = rw is (omega (arith, e .count));
+      within = rw is (subst (λ (i : ℕ). mask frame < 2 ^ i) z (mask-within a frame (e .within)));
     }
 
 module _ (a : Arch) (m : Memory) (at frame n : ℕ) (whole : Outcome (List ℕ)) (file : List ℕ) (rest bit k : ℕ)
@@ -67,15 +74,27 @@ module _ (a : Arch) (m : Memory) (at frame n : ℕ) (whole : Outcome (List ℕ))
   none true e = rw e
   none false e = rw e
 
-  -- no bit is left
-  pub saved-over : length (a .saved) ≤ bit → whole ≡ Answer file
-  saved-over h = t .left ∙ rw (named-end rest (a .saved) bit h) (none (reversed frame) refl)
-
   -- no bit that is left is set
   pub saved-none : rest ≡ 0 → whole ≡ Answer file
   saved-none z = t .left ∙ rw (z, named-zero (drop bit (a .saved))) (none (reversed frame) refl)
 
+  -- while one is, the table goes on
+  pub saved-place : (rest ≡ 0 → ⊥) → bit < length (a .saved)
+  saved-place some =
+      ⊎-elim (λ (h : bit < length (a .saved)). h)
+      (λ (h : length (a .saved) ≤ bit).
+      let z : length (a .saved) - bit ≡ 0 = omega arith in
+      let one : rest < 2 ^ 0 = subst (λ (i : ℕ). rest < 2 ^ i) z (t .within) in
+      absurd (some (omega arith)))
+      (lt-or-le bit (length (a .saved)))
+
   module _ (h : bit < length (a .saved)) where
+    halved : rest / 2 < 2 ^ (length (a .saved) - (bit + 1))
+    halved =
+        let i : length (a .saved) - bit ≡ suc (length (a .saved) - (bit + 1)) = omega arith in
+        let w = subst (λ (i : ℕ). rest < 2 ^ i) i (t .within) in
+        omega (arith, w, pow-suc 2 (length (a .saved) - (bit + 1)))
+
     -- a bit that is not set
     pub saved-skip : (rest % 2 ≡ 1 → ⊥) → SavedTurn a m at frame n whole file (rest / 2) (bit + 1) k
     saved-skip e =
@@ -83,6 +102,7 @@ module _ (a : Arch) (m : Memory) (at frame n : ℕ) (whole : Outcome (List ℕ))
         record {
           left = t .left ∙ rw c;
           count = ap (λ (l : List ℕ). k + length l) (sym c) ∙ t .count;
+          within = halved;
         }
 
     module _ (e : rest % 2 ≡ 1) where
@@ -117,6 +137,7 @@ module _ (a : Arch) (m : Memory) (at frame n : ℕ) (whole : Outcome (List ℕ))
                   restore-set a m at (record { reg = reg; slot = slot })
                   (slotsFrom frame (k + 1) (named (rest / 2) (drop (bit + 1) (a .saved)))) file column v p;
               count = omega (arith, counted);
+              within = halved;
             }
 
         -- or refused

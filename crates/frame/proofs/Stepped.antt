@@ -104,12 +104,12 @@ fp-kept a m frame at file k is e = rw (ne-eqb (kind frame) onFp (λ p. e (is ∙
 
 -- the parts of a step of which none is refused
 pub step-stored :
-    (a : Arch) (m : Memory) (frame at : ℕ) (file saved framed exit : List ℕ) (ra k : ℕ) →
+    (a : Arch) (m : Memory) (frame at : ℕ) (file saved framed exit : List ℕ) (ra : ℕ) →
     restorePairs a m at (savedPairs a frame) file ≡ Answer saved → Answer ra ≡ returnAddress a m at (raSlot a frame) file →
-    restorePairs a m at (fpPair a frame) saved ≡ Answer framed → Answer k ≡ columnOf a (a .ra) →
-    exit ≡ returned a at ra (ListN.set framed k ra) → stepAt a m frame at file ≡ Answer exit
-unfolding stepAt setCaller setFrame setReturn set
-step-stored a m frame at file saved framed exit ra k s r f c e = rw (s, sym r, f, sym c) (ap Answer (sym e))
+    restorePairs a m at (fpPair a frame) saved ≡ Answer framed → setReturn a at ra framed ≡ Answer exit →
+    stepAt a m frame at file ≡ Answer exit
+unfolding stepAt setCaller setFrame
+step-stored a m frame at file saved framed exit ra s r f e = rw (s, sym r, f) e
 
 module _ (a : Arch) (m : Memory) (frame : ℕ) (first : Bool) (file : List ℕ) where
   -- the word or fp is turned back, or there is a CFA

@@ -1,11 +1,14 @@
 -- Document 01's number and values for each case of this crate's own answers; a register file's are those of `next` in arch.
 use mathlib.Core.Path.{_≡_}
+use mathlib.Core.List.{List}
 use Prim.Native.Nat.{ℕ, _<_}
 use Rattle.failure.specs.Outcome as Outcome
 use Rattle.failure.specs.Outcome.{Outcome, Answer, _>>=_}
 use Rattle.mem.specs.Memory.{Memory}
 use Rattle.arch.specs.Arch.{Arch}
 use Rattle.arch.specs.File.{columns, columnOf}
+use Rattle.arch.specs.declared.Status.{Status}
+use Rattle.arch.specs.Answers.{statusOf}
 use Rattle.frame.specs.Layout.{Pair}
 use Rattle.frame.specs.Apply.{loadSlot}
 use Rattle.frame.specs.declared.Saved.{Saved}
@@ -37,3 +40,8 @@ InFile (Refused n) = Unit
 pub record Restores (a : Arch) (m : Memory) (at : ℕ) (p : Pair) (s : Saved) : Type 0 where
   pub outcome : cell s ≡ cellOf a m at p
   pub inFile : InFile s
+
+-- a call that stores in a file as it goes comes to the outcome; a refusal leaves the file anyhow
+pub record Partly (o : Outcome (List ℕ)) (s : Status) (exit : List ℕ) : Type 0 where
+  pub status : s ≡ statusOf o
+  pub file : (next : List ℕ) → o ≡ Answer next → exit ≡ next

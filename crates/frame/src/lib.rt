@@ -6,6 +6,7 @@ ghost use mathlib.Core.List.{List};
 ghost use mathlib.Core.Bool.{true, not, _&&_};
 ghost use Prim.Native.Nat.{ℕ, _-_, _*_, _≤_, _<_};
 ghost use lib.Dec.{eqb, ltb};
+ghost use lib.Count.{ones};
 ghost use lib.ListN.{length, getD};
 ghost use Rattle.failure.specs.Outcome as Outcome;
 ghost use Rattle.mem.specs.Memory.{lent};
@@ -17,8 +18,8 @@ ghost use Rattle.frame.specs.Apply as Apply;
 ghost use Rattle.frame.specs.Frame as Frame;
 ghost use Rattle.frame.specs.Step as Step;
 ghost use Rattle.frame.specs.Public as Public;
-ghost use Rattle.frame.specs.Answers.{Restores};
-ghost use Rattle.frame.specs.Near.{Near, slotIn, deepest};
+ghost use Rattle.frame.specs.Answers.{Restores, Partly};
+ghost use Rattle.frame.specs.Near.{InStack, OffSection, Near, slotIn, deepest, Saves};
 use arch::AARCH64;
 use arch::COLUMNS;
 use arch::Column;
@@ -46,30 +47,6 @@ pub const KIND_LEAF: u32 = 0;
 pub const KIND_FP: u32 = 1;
 
 pub const KIND_SP: u32 = 2;
-
-// The columns of the registers that the bits of a mask name.
-const COLUMNS_AARCH64: [usize; 18] = [
-    19,
-    20,
-    21,
-    22,
-    23,
-    24,
-    25,
-    26,
-    27,
-    28,
-    32,
-    33,
-    34,
-    35,
-    36,
-    37,
-    38,
-    39,
-];
-
-const COLUMNS_X86_64: [usize; 5] = [3, 12, 13, 14, 15];
 
 // A saved register: its column and its value, or a refusal.
 enum Saved {
@@ -114,14 +91,15 @@ fn load_slot<'a>(
     stack: &'a [u8],
     stack_base: usize,
     cfa: usize,
-    slot: u16,
+    slot: usize,
 ) -> Value
+    requires { ⌜ slot < 65536 ⌝ }
     ensures { λ r. ⌜
         valued r ≡
         Apply.loadSlot (lent (now (section .entry)) «section_base» (now (stack .entry)) «stack_base» .regions) cfa slot
         ⌝ }
 {
-    let at = wrapping::sub(cfa, 8 * slot as usize);
+    let at = wrapping::sub(cfa, 8 * slot);
     match load::load_u64(section, section_base, stack, stack_base, at) {
         Word::Value(v) => Value::Is(v),
         Word::Outside => Value::Refused(OUTSIDE_MEMORY),
@@ -145,7 +123,7 @@ fn saved_at<'a>(
         cfa (record { reg = reg; slot = slot }) r
         ⌝ }
 {
-    match load_slot(section, section_base, stack, stack_base, cfa, slot) {
+    match load_slot(section, section_base, stack, stack_base, cfa, slot as usize) {
         Value::Is(v) => match arch::column_of(arch, reg) {
             Column::At(k) => Saved::At(k, v),
             Column::Unknown => Saved::Refused(UNKNOWN_REGISTER),
@@ -382,15 +360,15 @@ fn first_slot(frame: u32) -> usize
 }
 
 // The slot of saved register number k of n.
-fn slot_of(frame: u32, n: usize, k: usize) -> u16
+fn slot_of(frame: u32, n: usize, k: usize) -> usize
     requires { ⌜ (k < n) × (n ≤ 18) ⌝ }
-    ensures { λ r. ⌜ r ≡ Frame.slotOf frame n k ⌝ }
+    ensures { λ r. ⌜ (r ≡ Frame.slotOf frame n k) × (r < 4096) ⌝ }
 {
     let slot = first_slot(frame);
     if reversed(frame) {
-        return (slot + (n - 1 - k)) as u16;
+        return slot + (n - 1 - k);
     }
-    (slot + k) as u16
+    slot + k
 }
 
 // The mask has a bit past the SAVED table.
@@ -401,70 +379,11 @@ fn past_table(arch: u8, frame: u32) -> bool
     mask(frame) >> n != 0
 }
 
-// How many registers the mask names.
-fn named_count(arch: u8, frame: u32) -> usize
-    ensures { λ r. ⌜ r ≡ length (Frame.named (Frame.mask frame) (Arch.numbers arch .saved)) ⌝ }
+// How many registers the mask names, where it lies within the table.
+fn named_count(frame: u32) -> usize
+    ensures { λ r. ⌜ r ≡ ones (Frame.mask frame) ⌝ }
 {
-    let table = arch::saved_count(arch);
-    let mut rest = mask(frame);
-    let mut bit = 0;
-    let mut n = 0;
-    while bit < table {
-        n += (rest % 2) as usize;
-        rest = rest / 2;
-        bit += 1;
-    }
-    n
-}
-
-// The registers that the mask names, in mask-bit order: each read, then set.
-fn restore_named<'a>(
-    section: &'a [u8],
-    section_base: usize,
-    stack: &'a [u8],
-    stack_base: usize,
-    arch: u8,
-    cfa: usize,
-    frame: u32,
-    regs: Regs,
-) -> Next
-    ensures { λ r. ⌜
-        r ≡ next regs
-        (Apply.restorePairs (Arch.numbers arch)
-        (lent (now (section .entry)) «section_base» (now (stack .entry)) «stack_base» .regions)
-        cfa (Frame.savedPairs (Arch.numbers arch) frame) (regs .r))
-        ⌝ }
-{
-    let table = arch::saved_count(arch);
-    let n = named_count(arch, frame);
-    let mut file = regs;
-    let mut rest = mask(frame);
-    let mut bit = 0;
-    let mut k = 0;
-    while bit < table {
-        let reg = arch::saved(arch, bit);
-        let named = rest % 2;
-        rest = rest / 2;
-        bit += 1;
-        if named == 1 {
-            let slot = slot_of(frame, n, k);
-            k += 1;
-            match saved_at(
-                section,
-                section_base,
-                stack,
-                stack_base,
-                arch,
-                cfa,
-                reg,
-                slot,
-            ) {
-                Saved::At(column, v) => file.r[column] = v,
-                Saved::Refused(x) => return refused(x, regs),
-            }
-        }
-    }
-    done(file)
+    u32::count_ones(mask(frame)) as usize
 }
 
 // Leaf: sp + 16 * param, and what entry has above sp.
@@ -546,201 +465,23 @@ fn ra_slot(arch: u8, frame: u32) -> u16
     1
 }
 
-// The return address, from its slot or still from its register.
-fn return_address<'a>(
-    section: &'a [u8],
-    section_base: usize,
-    stack: &'a [u8],
-    stack_base: usize,
-    arch: u8,
-    cfa: usize,
-    slot: u16,
-    regs: Regs,
-) -> Value
+// The column of the register that a bit of the mask names.
+fn saved_column(arch: u8, bit: usize) -> usize
+    requires { ⌜ bit < length (Arch.numbers arch .saved) ⌝ }
     ensures { λ r. ⌜
-        valued r ≡
-        Step.returnAddress (Arch.numbers arch)
-        (lent (now (section .entry)) «section_base» (now (stack .entry)) «stack_base» .regions)
-        cfa slot (regs .r)
+        (Outcome.Answer r ≡ File.columnOf (Arch.numbers arch) (getD (Arch.numbers arch .saved) bit 0)) × (r < File.columns)
         ⌝ }
 {
-    if slot == 0 {
-        return ra_register(arch, regs);
-    }
-    load_slot(section, section_base, stack, stack_base, cfa, slot)
-}
-
-// The return register, sp and pc are set in file; a refusal hands regs back.
-fn set_return(arch: u8, cfa: usize, ra: usize, regs: Regs, mut file: Regs) -> Next
-    ensures { λ r. ⌜ r ≡ next regs (Step.setReturn (Arch.numbers arch) cfa ra (file .r)) ⌝ }
-{
-    let a = arch::numbers(arch);
-    match arch::column_of(arch, a.ra) {
-        Column::At(k) => {
-            file.r[k] = ra;
-            done(returned(arch, cfa, ra, file))
+    if arch == AARCH64 {
+        if bit < 10 {
+            return 19 + bit;
         }
-        Column::Unknown => refused(UNKNOWN_REGISTER, regs),
+        return 22 + bit;
     }
-}
-
-// fp where the frame saves it, then what the return address sets; a refusal hands regs back.
-fn set_frame<'a>(
-    section: &'a [u8],
-    section_base: usize,
-    stack: &'a [u8],
-    stack_base: usize,
-    arch: u8,
-    cfa: usize,
-    frame: u32,
-    ra: usize,
-    regs: Regs,
-    mut file: Regs,
-) -> Next
-    ensures { λ r. ⌜
-        r ≡ next regs
-        (Step.setFrame (Arch.numbers arch)
-        (lent (now (section .entry)) «section_base» (now (stack .entry)) «stack_base» .regions)
-        frame cfa ra (file .r))
-        ⌝ }
-{
-    if kind(frame) == KIND_FP {
-        let a = arch::numbers(arch);
-        match saved_at(section, section_base, stack, stack_base, arch, cfa, a.fp, 2) {
-            Saved::At(k, v) => {
-                file.r[k] = v;
-                return set_return(arch, cfa, ra, regs, file);
-            }
-            Saved::Refused(n) => return refused(n, regs),
-        }
+    if bit == 0 {
+        return 3;
     }
-    set_return(arch, cfa, ra, regs, file)
-}
-
-// The return address is read, from regs or memory, then file becomes the caller's; a refusal hands regs back.
-fn set_caller<'a>(
-    section: &'a [u8],
-    section_base: usize,
-    stack: &'a [u8],
-    stack_base: usize,
-    arch: u8,
-    cfa: usize,
-    frame: u32,
-    regs: Regs,
-    file: Regs,
-) -> Next
-    ensures { λ r. ⌜
-        r ≡ next regs
-        (Step.setCaller (Arch.numbers arch)
-        (lent (now (section .entry)) «section_base» (now (stack .entry)) «stack_base» .regions)
-        frame cfa (regs .r) (file .r))
-        ⌝ }
-{
-    let slot = ra_slot(arch, frame);
-    match return_address(
-        section,
-        section_base,
-        stack,
-        stack_base,
-        arch,
-        cfa,
-        slot,
-        regs,
-    ) {
-        Value::Is(ra) => set_frame(
-            section,
-            section_base,
-            stack,
-            stack_base,
-            arch,
-            cfa,
-            frame,
-            ra,
-            regs,
-            file,
-        ),
-        Value::Refused(n) => refused(n, regs),
-    }
-}
-
-// Past the tests: the saved registers, then the rest of the caller's.
-fn step_at<'a>(
-    section: &'a [u8],
-    section_base: usize,
-    stack: &'a [u8],
-    stack_base: usize,
-    arch: u8,
-    cfa: usize,
-    frame: u32,
-    regs: Regs,
-) -> Next
-    ensures { λ r. ⌜
-        r ≡ next regs
-        (Step.stepAt (Arch.numbers arch)
-        (lent (now (section .entry)) «section_base» (now (stack .entry)) «stack_base» .regions)
-        frame cfa (regs .r))
-        ⌝ }
-{
-    let restored = restore_named(
-        section,
-        section_base,
-        stack,
-        stack_base,
-        arch,
-        cfa,
-        frame,
-        regs,
-    );
-    let status = restored.status;
-    let file = restored.regs;
-    match status {
-        Status::Done => set_caller(
-            section,
-            section_base,
-            stack,
-            stack_base,
-            arch,
-            cfa,
-            frame,
-            regs,
-            file,
-        ),
-        Status::Refused(n) => refused(n, regs),
-    }
-}
-
-// Slots 1 to depth lie in the stack, and none of their bytes in the section.
-fn near<'a>(
-    section: &'a [u8],
-    section_base: usize,
-    stack: &'a [u8],
-    stack_base: usize,
-    cfa: usize,
-    depth: usize,
-) -> bool
-    requires { ⌜ depth ≤ 65536 ⌝ }
-    ensures { λ r. ⌜
-        (r ≡ true → Near (now (section .entry)) «section_base» (now (stack .entry)) «stack_base» cfa depth)
-        ⌝ }
-{
-    if cfa < stack_base {
-        return false;
-    }
-    let top = cfa - stack_base;
-    if stack.len() < top {
-        return false;
-    }
-    if top < 8 * depth {
-        return false;
-    }
-    if cfa <= section_base {
-        return true;
-    }
-    let low = cfa - 8 * depth;
-    if low < section_base {
-        return false;
-    }
-    section.len() <= low - section_base
+    11 + bit
 }
 
 // What stands in a slot of the stack.
@@ -768,19 +509,6 @@ fn deepest(frame: u32, n: usize) -> usize
     past - 1
 }
 
-// The column of the register that a bit of the mask names.
-fn saved_column(arch: u8, bit: usize) -> usize
-    requires { ⌜ bit < length (Arch.numbers arch .saved) ⌝ }
-    ensures { λ r. ⌜
-        (Outcome.Answer r ≡ File.columnOf (Arch.numbers arch) (getD (Arch.numbers arch .saved) bit 0)) × (r < File.columns)
-        ⌝ }
-{
-    if arch == AARCH64 {
-        return COLUMNS_AARCH64[bit];
-    }
-    COLUMNS_X86_64[bit]
-}
-
 // The column of the return register.
 fn ra_column(arch: u8) -> usize
     ensures { λ r. ⌜ (Outcome.Answer r ≡ File.columnOf (Arch.numbers arch) (Arch.numbers arch .ra)) × (r < File.columns) ⌝ }
@@ -789,6 +517,36 @@ fn ra_column(arch: u8) -> usize
         return 30;
     }
     PC_COLUMN
+}
+
+// Slots 1 to depth lie in the stack.
+fn in_stack(stack: &[u8], stack_base: usize, cfa: usize, depth: usize) -> bool
+    requires { ⌜ depth < 65536 ⌝ }
+    ensures { λ r. ⌜ (r ≡ true → InStack (now (stack .entry)) «stack_base» cfa depth) ⌝ }
+{
+    if cfa < stack_base {
+        return false;
+    }
+    let top = cfa - stack_base;
+    if stack.len() < top {
+        return false;
+    }
+    8 * depth <= top
+}
+
+// No byte of slots 1 to depth lies in the section.
+fn off_section(section: &[u8], section_base: usize, cfa: usize, depth: usize) -> bool
+    requires { ⌜ (depth < 65536) × (8 * depth ≤ cfa) ⌝ }
+    ensures { λ r. ⌜ (r ≡ true → OffSection (now (section .entry)) «section_base» cfa depth) ⌝ }
+{
+    if cfa <= section_base {
+        return true;
+    }
+    let low = cfa - 8 * depth;
+    if low < section_base {
+        return false;
+    }
+    section.len() <= low - section_base
 }
 
 // The registers that the mask names, read from the stack and stored in place.
@@ -804,9 +562,7 @@ fn restore_near<'a>(
     file: &mut [usize; COLUMNS],
 )
     requires { ⌜
-        Near (now section) «section_base» (now stack) «stack_base» cfa (deepest frame n)
-        × (n ≡ length (Frame.named (Frame.mask frame) (Arch.numbers arch .saved)))
-        × (0 < n → 0 < Frame.firstSlot frame)
+        Near (now section) «section_base» (now stack) «stack_base» cfa (deepest frame n) × Saves (Arch.numbers arch) frame n
         ⌝ }
     ensures { λ _. ⌜
         Apply.restorePairs (Arch.numbers arch)
@@ -815,15 +571,11 @@ fn restore_near<'a>(
         ≡ Outcome.Answer (now (file .exit))
         ⌝ }
 {
-    let table = arch::saved_count(arch);
     let top = cfa - stack_base;
     let mut rest = mask(frame);
     let mut bit = 0;
     let mut k = 0;
-    while bit < table {
-        if rest == 0 {
-            return;
-        }
+    while rest != 0 {
         let column = saved_column(arch, bit);
         let named = rest % 2;
         rest = rest / 2;
@@ -831,7 +583,7 @@ fn restore_near<'a>(
         if named == 1 {
             let slot = slot_of(frame, n, k);
             k += 1;
-            file[column] = slot_in(stack, top, slot as usize);
+            file[column] = slot_in(stack, top, slot);
         }
     }
 }
@@ -882,8 +634,7 @@ fn address_near<'a>(
         cfa (Frame.raSlot (Arch.numbers arch) frame) file)
         ⌝ }
 {
-    let slot = ra_slot(arch, frame);
-    if slot == 0 {
+    if ra_slot(arch, frame) == 0 {
         return held;
     }
     slot_in(stack, cfa - stack_base, 1)
@@ -896,6 +647,15 @@ fn return_to(arch: u8, cfa: usize, ra: usize, file: &mut [usize; COLUMNS])
     let k = arch::sp_column(arch);
     file[k] = cfa;
     file[PC_COLUMN] = arch::stripped(arch, ra);
+}
+
+// The return register, sp and pc in place.
+fn set_return(arch: u8, cfa: usize, ra: usize, file: &mut [usize; COLUMNS])
+    ensures { λ _. ⌜ Step.setReturn (Arch.numbers arch) cfa ra (now (file .entry)) ≡ Outcome.Answer (now (file .exit)) ⌝ }
+{
+    let k = ra_column(arch);
+    file[k] = ra;
+    return_to(arch, cfa, ra, file);
 }
 
 // Past the tests, where no slot can be refused: the caller's registers in place.
@@ -911,9 +671,7 @@ fn step_near<'a>(
     file: &mut [usize; COLUMNS],
 )
     requires { ⌜
-        Near (now section) «section_base» (now stack) «stack_base» cfa (deepest frame n)
-        × (n ≡ length (Frame.named (Frame.mask frame) (Arch.numbers arch .saved)))
-        × (0 < n → 0 < Frame.firstSlot frame)
+        Near (now section) «section_base» (now stack) «stack_base» cfa (deepest frame n) × Saves (Arch.numbers arch) frame n
         ⌝ }
     ensures { λ _. ⌜
         Step.stepAt (Arch.numbers arch)
@@ -954,11 +712,112 @@ fn step_near<'a>(
         frame,
         file,
     );
-    file[k] = ra;
-    return_to(arch, cfa, ra, file);
+    set_return(arch, cfa, ra, file);
 }
 
-// Past the tests, anywhere: the caller's registers by value, then in place.
+// The registers that the mask names, in mask-bit order: each read, then stored.
+fn restore_named<'a>(
+    section: &'a [u8],
+    section_base: usize,
+    stack: &'a [u8],
+    stack_base: usize,
+    arch: u8,
+    cfa: usize,
+    frame: u32,
+    n: usize,
+    file: &mut [usize; COLUMNS],
+) -> Status
+    requires { ⌜ Saves (Arch.numbers arch) frame n ⌝ }
+    ensures { λ r. ⌜
+        Partly
+        (Apply.restorePairs (Arch.numbers arch)
+        (lent (now (section .entry)) «section_base» (now (stack .entry)) «stack_base» .regions)
+        cfa (Frame.savedPairs (Arch.numbers arch) frame) (now (file .entry)))
+        r (now (file .exit))
+        ⌝ }
+{
+    let mut rest = mask(frame);
+    let mut bit = 0;
+    let mut k = 0;
+    while rest != 0 {
+        let column = saved_column(arch, bit);
+        let named = rest % 2;
+        rest = rest / 2;
+        bit += 1;
+        if named == 1 {
+            let slot = slot_of(frame, n, k);
+            k += 1;
+            match load_slot(section, section_base, stack, stack_base, cfa, slot) {
+                Value::Is(v) => file[column] = v,
+                Value::Refused(x) => return Status::Refused(x),
+            }
+        }
+    }
+    Status::Done
+}
+
+// The return address, from its slot or still in its register.
+fn return_address<'a>(
+    section: &'a [u8],
+    section_base: usize,
+    stack: &'a [u8],
+    stack_base: usize,
+    arch: u8,
+    cfa: usize,
+    frame: u32,
+    held: usize,
+) -> Value
+    ensures { λ r. ⌜
+        ((file : List ℕ) → Outcome.Answer held ≡ File.get (Arch.numbers arch) file (Arch.numbers arch .ra) →
+        valued r ≡
+        Step.returnAddress (Arch.numbers arch)
+        (lent (now (section .entry)) «section_base» (now (stack .entry)) «stack_base» .regions)
+        cfa (Frame.raSlot (Arch.numbers arch) frame) file)
+        ⌝ }
+{
+    let slot = ra_slot(arch, frame);
+    if slot == 0 {
+        return Value::Is(held);
+    }
+    load_slot(section, section_base, stack, stack_base, cfa, slot as usize)
+}
+
+// fp where the frame saves it, then what the return address sets.
+fn set_frame<'a>(
+    section: &'a [u8],
+    section_base: usize,
+    stack: &'a [u8],
+    stack_base: usize,
+    arch: u8,
+    cfa: usize,
+    frame: u32,
+    ra: usize,
+    file: &mut [usize; COLUMNS],
+) -> Status
+    ensures { λ r. ⌜
+        Partly
+        (Step.setFrame (Arch.numbers arch)
+        (lent (now (section .entry)) «section_base» (now (stack .entry)) «stack_base» .regions)
+        frame cfa ra (now (file .entry)))
+        r (now (file .exit))
+        ⌝ }
+{
+    if kind(frame) != KIND_FP {
+        set_return(arch, cfa, ra, file);
+        return Status::Done;
+    }
+    match load_slot(section, section_base, stack, stack_base, cfa, 2) {
+        Value::Is(v) => {
+            let k = arch::fp_column(arch);
+            file[k] = v;
+            set_return(arch, cfa, ra, file);
+            Status::Done
+        }
+        Value::Refused(x) => Status::Refused(x),
+    }
+}
+
+// Past the tests, anywhere: the caller's registers in a copy, which becomes the file if nothing is refused.
 fn step_plain<'a>(
     section: &'a [u8],
     section_base: usize,
@@ -967,8 +826,10 @@ fn step_plain<'a>(
     arch: u8,
     cfa: usize,
     frame: u32,
+    n: usize,
     file: &mut [usize; COLUMNS],
 ) -> Status
+    requires { ⌜ Saves (Arch.numbers arch) frame n ⌝ }
     ensures { λ r. ⌜
         InPlace (now (file .entry))
         (Step.stepAt (Arch.numbers arch)
@@ -977,9 +838,10 @@ fn step_plain<'a>(
         r (now (file .exit))
         ⌝ }
 {
-    let whole = *file;
-    let regs = Regs { r: whole };
-    let next = step_at(
+    let mut copy = *file;
+    let k = ra_column(arch);
+    let held = copy[k];
+    match restore_named(
         section,
         section_base,
         stack,
@@ -987,17 +849,39 @@ fn step_plain<'a>(
         arch,
         cfa,
         frame,
-        regs,
-    );
-    let status = next.status;
-    let after = next.regs;
-    match status {
-        Status::Done => {
-            let r = after.r;
-            *file = r;
-            Status::Done
-        }
-        Status::Refused(n) => Status::Refused(n),
+        n,
+        &mut copy,
+    ) {
+        Status::Done => match return_address(
+            section,
+            section_base,
+            stack,
+            stack_base,
+            arch,
+            cfa,
+            frame,
+            held,
+        ) {
+            Value::Is(ra) => match set_frame(
+                section,
+                section_base,
+                stack,
+                stack_base,
+                arch,
+                cfa,
+                frame,
+                ra,
+                &mut copy,
+            ) {
+                Status::Done => {
+                    *file = copy;
+                    Status::Done
+                }
+                Status::Refused(x) => Status::Refused(x),
+            },
+            Value::Refused(y) => Status::Refused(y),
+        },
+        Status::Refused(z) => Status::Refused(z),
     }
 }
 
@@ -1025,16 +909,10 @@ pub fn step_into<'a>(
     let f = arch::fp_column(arch);
     match frame_cfa(arch, frame, first, file[s], file[f]) {
         Value::Is(cfa) => {
-            let n = named_count(arch, frame);
-            if near(
-                section,
-                section_base,
-                stack,
-                stack_base,
-                cfa,
-                deepest(frame, n),
-            ) {
-                step_near(
+            let n = named_count(frame);
+            let depth = deepest(frame, n);
+            if !in_stack(stack, stack_base, cfa, depth) {
+                return step_plain(
                     section,
                     section_base,
                     stack,
@@ -1045,9 +923,21 @@ pub fn step_into<'a>(
                     n,
                     file,
                 );
-                return Status::Done;
             }
-            step_plain(
+            if !off_section(section, section_base, cfa, depth) {
+                return step_plain(
+                    section,
+                    section_base,
+                    stack,
+                    stack_base,
+                    arch,
+                    cfa,
+                    frame,
+                    n,
+                    file,
+                );
+            }
+            step_near(
                 section,
                 section_base,
                 stack,
@@ -1055,8 +945,10 @@ pub fn step_into<'a>(
                 arch,
                 cfa,
                 frame,
+                n,
                 file,
-            )
+            );
+            Status::Done
         }
         Value::Refused(n) => Status::Refused(n),
     }

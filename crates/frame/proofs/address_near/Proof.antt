@@ -16,14 +16,15 @@ ra-slot-requires : tie.Need-ra-slot-requires
 ra-slot-requires c κs = search needs
 
 returns : tie.Need-returns
-returns c =
-    λ file e. address-register _ _ _ _ file _ (sym (c .before .ra-slot .ensures) ∙ c .if1 .taken) e
+returns c = λ file e. address-register _ _ _ _ file _ (sym (c .before .ra-slot .ensures) ∙ c .if1 .taken) e
 
 sub-slot-in : tie.Need-sub-slot-in
-sub-slot-in c = search needs
+sub-slot-in c = omega (arith, c .before .before .before .before .pre .inStack .low)
 
 slot-in-requires : tie.Need-slot-in-requires
-slot-in-requires c κs = search needs
+slot-in-requires c κs =
+    let near = c .before .before .before .before .pre .inStack in
+    (lit< tt, omega (arith, near .low), omega (arith, near .high))
 
 returns-2 : tie.Need-returns-2
 returns-2 c =

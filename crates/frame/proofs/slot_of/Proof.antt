@@ -1,6 +1,7 @@
 -- `frame::slot_of` meets its contract. Assumes nothing.
 use mathlib.Core.Path.{sym, _∙_, ap}
 use Prim.Native.Nat.{ℕ, _+_, _-_}
+use native.Mathlib.Omega.{arith}
 use borrow.Author.Needs.{needs}
 use Rattle.frame.proofs.slot_of.Statement.{statement}
 use Rattle.frame.proofs.slot_of.Tie as tie
@@ -20,23 +21,23 @@ sub-result-2 c = search needs
 add-result : tie.Need-add-result
 add-result c = search needs
 
-cast-result : tie.Need-cast-result
-cast-result c = search needs
-
 returns : tie.Need-returns
 returns c =
-    let x = c .before .before .before .args in
-    rw (sym (c .before .reversed .ensures) ∙ c .if1 .taken)
-    (ap (λ (s : ℕ). s + (x .n - 1 - x .k)) (c .before .before .first-slot .ensures .0))
+    let x = c .before .before .before .args in (
+      rw (sym (c .before .reversed .ensures) ∙ c .if1 .taken)
+          (ap (λ (s : ℕ). s + (x .n - 1 - x .k)) (c .before .before .first-slot .ensures .0)),
+      omega (arith, c .before .before .first-slot .ensures .1),
+    )
 
 add-result-2 : tie.Need-add-result-2
 add-result-2 c = search needs
 
-cast-result-2 : tie.Need-cast-result-2
-cast-result-2 c = search needs
-
 returns-2 : tie.Need-returns-2
-returns-2 c = rw (sym (c .before .reversed .ensures) ∙ c .if1 .left) (ap (λ (s : ℕ). s + c .before .before .before .args .k) (c .before .before .first-slot .ensures .0))
+returns-2 c = (
+  rw (sym (c .before .reversed .ensures) ∙ c .if1 .left)
+      (ap (λ (s : ℕ). s + c .before .before .before .args .k) (c .before .before .first-slot .ensures .0)),
+  omega (arith, c .before .before .first-slot .ensures .1),
+)
 
 pub slot-of-spec : {M : Type 1} → statement M
 slot-of-spec =
@@ -47,8 +48,6 @@ slot-of-spec =
     sub-result
     sub-result-2
     add-result
-    cast-result
     returns
     add-result-2
-    cast-result-2
     returns-2)

@@ -6,14 +6,12 @@ use native.Mathlib.Omega.{arith}
 use lib.ListN.{getD}
 use denote.Ref.{now}
 use borrow.Author.Needs.{needs}
+use borrow.Author.Tests.{not-false}
 use Rattle.failure.specs.Outcome.{Outcome}
-use Rattle.arch.specs.Arch.{numbers}
 use Rattle.arch.specs.Answers.{valued, InPlace}
 use Rattle.arch.proofs.InPlace.{place-done, place-refused}
-use Rattle.frame.specs.Frame.{mask}
 use Rattle.frame.specs.Near.{Near}
-use Rattle.frame.proofs.Named.{table-short, named-few}
-use Rattle.frame.proofs.InStack.{first-some}
+use Rattle.frame.proofs.Saves.{saves, saves-few}
 use Rattle.frame.proofs.Stepped.{word-refused, word-passes}
 use Rattle.frame.proofs.step_into.Statement.{statement}
 use Rattle.frame.proofs.step_into.Tie as tie
@@ -47,47 +45,61 @@ named-count-requires c κs = search needs
 
 deepest-requires : tie.Need-deepest-requires
 deepest-requires c κs =
-    let x = c .before .before .before .before .before .before .before .before .before .before .before .args in
-    omega (arith, c .named-count .ensures, table-short (x .arch), named-few (mask (x .frame)) (numbers (x .arch) .saved))
+    let file = now (c .before .before .before .before .before .before .before .before .before .before .before .args .file) in
+    saves-few _ _ _ (saves _ _ _ file _ _ (sym (ap valued (c .before .before .cfa .given .1)) ∙ c .before .before .before .before .frame-cfa .ensures file (ap (λ (k : ℕ). getD file k 0) (c .before .before .before .before .before .before .before .before .sp-column .ensures .0)) (ap (λ (k : ℕ). getD file k 0) (c .before .before .before .before .before .before .before .fp-column .ensures .0))) (c .named-count .ensures))
 
-near-requires : tie.Need-near-requires
-near-requires c κs = omega (arith, c .deepest .ensures .1)
+in-stack-requires : tie.Need-in-stack-requires
+in-stack-requires c κs = omega (arith, c .deepest .ensures .1)
 
-step-near-requires : tie.Need-step-near-requires
-step-near-requires c κs =
-    let x = c .before .before .before .before .before .before .before .before .before .before .before .before .before .before .before .args in
-    let file = now (x .file) in
-    let told = c .before .before .before .before .before .before .before .before .frame-cfa .ensures file (ap (λ (k : ℕ). getD file k 0) (c .before .before .before .before .before .before .before .before .before .before .before .before .sp-column .ensures .0)) (ap (λ (k : ℕ). getD file k 0) (c .before .before .before .before .before .before .before .before .before .before .before .fp-column .ensures .0)) in (
-      subst (λ (d : ℕ). Near (now (x .section)) (x .section-base) (now (x .stack)) (x .stack-base) (c .before .before .before .before .before .before .cfa .given .0 .0) d)
-          (c .before .before .before .deepest .ensures .0) (c .before .before .near .ensures (c .before .if1 .taken)),
-      c .before .before .before .before .named-count .ensures,
-      first-some _ _ _ _ _ _ (sym (ap valued (c .before .before .before .before .before .before .cfa .given .1)) ∙ told) (c .before .before .before .before .named-count .ensures),
-    )
+step-plain-requires : tie.Need-step-plain-requires
+step-plain-requires c κs =
+    let file = now (c .before .before .before .before .before .before .before .before .before .before .before .before .before .before .before .args .file) in
+    saves _ _ _ file _ _ (sym (ap valued (c .before .before .before .before .before .before .cfa .given .1)) ∙ c .before .before .before .before .before .before .before .before .frame-cfa .ensures file (ap (λ (k : ℕ). getD file k 0) (c .before .before .before .before .before .before .before .before .before .before .before .before .sp-column .ensures .0)) (ap (λ (k : ℕ). getD file k 0) (c .before .before .before .before .before .before .before .before .before .before .before .fp-column .ensures .0))) (c .before .before .before .before .named-count .ensures)
 
 returns : tie.Need-returns
 returns c =
     let file = now (c .before .before .before .before .before .before .before .before .before .before .before .before .before .before .before .before .args .file) in
-    let told = c .before .before .before .before .before .before .before .before .before .frame-cfa .ensures file (ap (λ (k : ℕ). getD file k 0) (c .before .before .before .before .before .before .before .before .before .before .before .before .before .sp-column .ensures .0)) (ap (λ (k : ℕ). getD file k 0) (c .before .before .before .before .before .before .before .before .before .before .before .before .fp-column .ensures .0)) in
-    place-done _ _ _ (sym (word-passes _ _ _ _ _ _ (sym (ap valued (c .before .before .before .before .before .before .before .cfa .given .1)) ∙ told)) ∙ c .step-near .ensures)
+    subst (λ (o : Outcome (List ℕ)). InPlace file o (c .step-plain .result) (c .step-plain .last .1 .1 .1 .1 .1 .1 .1 .1 .0))
+    (word-passes _ _ _ _ file _ (sym (ap valued (c .before .before .before .before .before .before .before .cfa .given .1)) ∙ c .before .before .before .before .before .before .before .before .before .frame-cfa .ensures file (ap (λ (k : ℕ). getD file k 0) (c .before .before .before .before .before .before .before .before .before .before .before .before .before .sp-column .ensures .0)) (ap (λ (k : ℕ). getD file k 0) (c .before .before .before .before .before .before .before .before .before .before .before .before .fp-column .ensures .0)))) (c .step-plain .ensures)
 
-step-plain-requires : tie.Need-step-plain-requires
-step-plain-requires c κs = search needs
+off-section-requires : tie.Need-off-section-requires
+off-section-requires c κs =
+    let stack = c .before .in-stack .ensures (not-false _ (c .if1 .left)) in
+    (omega (arith, c .before .before .deepest .ensures .1), omega (arith, stack .low))
+
+step-plain-requires-2 : tie.Need-step-plain-requires-2
+step-plain-requires-2 c κs =
+    let file = now (c .before .before .before .before .before .before .before .before .before .before .before .before .before .before .before .before .before .args .file) in
+    saves _ _ _ file _ _ (sym (ap valued (c .before .before .before .before .before .before .before .before .cfa .given .1)) ∙ c .before .before .before .before .before .before .before .before .before .before .frame-cfa .ensures file (ap (λ (k : ℕ). getD file k 0) (c .before .before .before .before .before .before .before .before .before .before .before .before .before .before .sp-column .ensures .0)) (ap (λ (k : ℕ). getD file k 0) (c .before .before .before .before .before .before .before .before .before .before .before .before .before .fp-column .ensures .0))) (c .before .before .before .before .before .before .named-count .ensures)
+
+returns-2 : tie.Need-returns-2
+returns-2 c =
+    let file = now (c .before .before .before .before .before .before .before .before .before .before .before .before .before .before .before .before .before .before .args .file) in
+    subst (λ (o : Outcome (List ℕ)). InPlace file o (c .step-plain2 .result) (c .step-plain2 .last .1 .1 .1 .1 .1 .1 .1 .1 .0))
+    (word-passes _ _ _ _ file _ (sym (ap valued (c .before .before .before .before .before .before .before .before .before .cfa .given .1)) ∙ c .before .before .before .before .before .before .before .before .before .before .before .frame-cfa .ensures file (ap (λ (k : ℕ). getD file k 0) (c .before .before .before .before .before .before .before .before .before .before .before .before .before .before .before .sp-column .ensures .0)) (ap (λ (k : ℕ). getD file k 0) (c .before .before .before .before .before .before .before .before .before .before .before .before .before .before .fp-column .ensures .0)))) (c .step-plain2 .ensures)
+
+step-near-requires : tie.Need-step-near-requires
+step-near-requires c κs =
+    let x = c .before .before .before .before .before .before .before .before .before .before .before .before .before .before .before .before .before .args in
+    let file = now (x .file) in (
+      subst (λ (d : ℕ). Near (now (x .section)) (x .section-base) (now (x .stack)) (x .stack-base) (c .before .before .before .before .before .before .before .before .cfa .given .0 .0) d)
+          (c .before .before .before .before .before .deepest .ensures .0)
+          (record { inStack = c .before .before .before .before .in-stack .ensures (not-false _ (c .before .before .before .if1 .left)); off = c .before .before .off-section .ensures (not-false _ (c .before .if2 .left)) }),
+      saves _ _ _ file _ _ (sym (ap valued (c .before .before .before .before .before .before .before .before .cfa .given .1)) ∙ c .before .before .before .before .before .before .before .before .before .before .frame-cfa .ensures file (ap (λ (k : ℕ). getD file k 0) (c .before .before .before .before .before .before .before .before .before .before .before .before .before .before .sp-column .ensures .0)) (ap (λ (k : ℕ). getD file k 0) (c .before .before .before .before .before .before .before .before .before .before .before .before .before .fp-column .ensures .0))) (c .before .before .before .before .before .before .named-count .ensures),
+    )
 
 enum-known-n : tie.Need-enum-known-n
 enum-known-n c = search needs
 
-returns-2 : tie.Need-returns-2
-returns-2 c =
-    let file = now (c .before .before .before .before .before .before .before .before .before .before .before .before .before .before .before .before .args .file) in
-    let told = c .before .before .before .before .before .before .before .before .before .frame-cfa .ensures file (ap (λ (k : ℕ). getD file k 0) (c .before .before .before .before .before .before .before .before .before .before .before .before .before .sp-column .ensures .0)) (ap (λ (k : ℕ). getD file k 0) (c .before .before .before .before .before .before .before .before .before .before .before .before .fp-column .ensures .0)) in
-    subst (λ (o : Outcome (List ℕ)). InPlace file o (c .step-plain .result) (c .step-plain .last .1 .1 .1 .1 .1 .1 .1 .0))
-    (word-passes _ _ _ _ _ _ (sym (ap valued (c .before .before .before .before .before .before .before .cfa .given .1)) ∙ told)) (c .step-plain .ensures)
-
 returns-3 : tie.Need-returns-3
 returns-3 c =
+    let file = now (c .before .before .before .before .before .before .before .before .before .before .before .before .before .before .before .before .before .before .args .file) in
+    place-done _ _ _ (sym (word-passes _ _ _ _ file _ (sym (ap valued (c .before .before .before .before .before .before .before .before .before .cfa .given .1)) ∙ c .before .before .before .before .before .before .before .before .before .before .before .frame-cfa .ensures file (ap (λ (k : ℕ). getD file k 0) (c .before .before .before .before .before .before .before .before .before .before .before .before .before .before .before .sp-column .ensures .0)) (ap (λ (k : ℕ). getD file k 0) (c .before .before .before .before .before .before .before .before .before .before .before .before .before .before .fp-column .ensures .0)))) ∙ c .step-near .ensures)
+
+returns-4 : tie.Need-returns-4
+returns-4 c =
     let file = now (c .before .before .before .before .before .before .before .before .before .before .args .file) in
-    let told = c .before .before .before .frame-cfa .ensures file (ap (λ (k : ℕ). getD file k 0) (c .before .before .before .before .before .before .before .sp-column .ensures .0)) (ap (λ (k : ℕ). getD file k 0) (c .before .before .before .before .before .before .fp-column .ensures .0)) in
-    place-refused _ _ _ (sym (word-refused _ _ _ _ _ _ (sym (ap valued (c .before .n .given .1)) ∙ told)))
+    place-refused _ _ _ (sym (word-refused _ _ _ _ file _ (sym (ap valued (c .before .n .given .1)) ∙ c .before .before .before .frame-cfa .ensures file (ap (λ (k : ℕ). getD file k 0) (c .before .before .before .before .before .before .before .sp-column .ensures .0)) (ap (λ (k : ℕ). getD file k 0) (c .before .before .before .before .before .before .fp-column .ensures .0)))))
 
 pub step-into-spec : {M : Type 1} → statement M
 step-into-spec =
@@ -103,10 +115,13 @@ step-into-spec =
     enum-known-cfa
     named-count-requires
     deepest-requires
-    near-requires
-    step-near-requires
-    returns
+    in-stack-requires
     step-plain-requires
-    enum-known-n
+    returns
+    off-section-requires
+    step-plain-requires-2
     returns-2
-    returns-3)
+    step-near-requires
+    enum-known-n
+    returns-3
+    returns-4)

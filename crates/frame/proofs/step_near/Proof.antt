@@ -1,5 +1,4 @@
 -- `frame::step_near` meets its contract. Assumes nothing.
-use mathlib.Core.Path.{sym, _∙_, ap}
 use borrow.Author.Needs.{needs}
 use Rattle.arch.proofs.File.{get-at}
 use Rattle.frame.proofs.InStack.{near-less, deepest-bounds}
@@ -25,20 +24,14 @@ restore-near-requires c κs = search needs
 fp-near-requires : tie.Need-fp-near-requires
 fp-near-requires c κs = near-less _ _ _ _ _ _ (c .before .before .before .before .before .before .before .before .pre .0) 2 (deepest-bounds _ _ .0)
 
-mul-file : tie.Need-mul-file
-mul-file c = search needs
-
-element-write-file : tie.Need-element-write-file
-element-write-file c = search needs
-
-return-to-requires : tie.Need-return-to-requires
-return-to-requires c κs = search needs
+set-return-requires : tie.Need-set-return-requires
+set-return-requires c κs = search needs
 
 returns : tie.Need-returns
 returns c =
-    step-stored _ _ _ _ _ _ _ _ _ _ (c .before .before .before .before .restore-near .ensures)
+    step-stored _ _ _ _ _ _ _ _ _ (c .before .before .before .before .restore-near .ensures)
     (c .before .before .before .before .before .before .address-near .ensures _ (get-at _ _ _ _ (c .before .before .before .before .before .before .before .before .ra-column .ensures .0)))
-    (c .before .before .fp-near .ensures) (c .before .before .before .before .before .before .before .before .ra-column .ensures .0) (c .return-to .ensures)
+    (c .before .before .fp-near .ensures) (c .set-return .ensures)
 
 pub step-near-spec : {M : Type 1} → statement M
 step-near-spec =
@@ -50,7 +43,5 @@ step-near-spec =
     address-near-requires
     restore-near-requires
     fp-near-requires
-    mul-file
-    element-write-file
-    return-to-requires
+    set-return-requires
     returns)

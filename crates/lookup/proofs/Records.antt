@@ -11,16 +11,12 @@ use borrow.Author.Tests.{eq-eqb, ne-eqb, le-leb, lt-leb, lt-ltb, le-ltb, leb-tru
 use Rattle.mem.specs.Wrapping.{sum, signed32}
 use Rattle.lookup.specs.Field.{word}
 use Rattle.lookup.specs.Record.{startAt, endAt, addressOf, offsetOf, handlersOf, recordAt, recordAt2, placeOf, recordIn, recordOf, holds, badRecord}
-use Rattle.lookup.specs.Steps.{Inside, Stands, SomeStands}
+use Rattle.lookup.specs.Steps.{Inside, Stands}
 use Rattle.mem.proofs.Tests.{both}
 use Rattle.lookup.specs.declared.Chunk.{Chunk}
 use Rattle.lookup.specs.declared.Record.{Record}
 
--- a record of a chunk lies in the part
-pub record-room : (bytes : List ℕ) (c : Chunk) (i : ℕ) → Inside bytes c → i < c .count → placeOf c i + c .stride ≤ length bytes
-record-room bytes c i h l = omega (arith, mul-le-mul-right (c .stride) l, suc-mul i (c .stride))
-
--- its start and end, for both versions
+-- a record's start and end, for both versions
 module _ (bytes : List ℕ) (base : ℕ) (c : Chunk) (i : ℕ) where
   pub record-start : recordOf bytes base c i .start ≡ startAt bytes base (placeOf c i)
   unfolding recordOf recordAt recordAt2
@@ -46,50 +42,50 @@ module _ (c : Chunk) where
   pub last-stands : 0 < c .count → Stands c (c .count - 1) (c .offset + 16 + (c .count - 1) * c .stride)
   last-stands h = record { below = omega arith; place = refl }
 
-  module _ (bytes : List ℕ) (inside : Inside bytes c) (k : ℕ) where
-    pub stand-room : SomeStands c k → k + c .stride ≤ length bytes
-    stand-room s = omega (arith, record-room bytes c (s .index) inside (s .stands .below), s .stands .place)
+  module _ (bytes : List ℕ) (inside : Inside bytes c) (k i : ℕ) (s : Stands c i k) where
+    -- a record lies in the part
+    pub stands-room : k + c .stride ≤ length bytes
+    stands-room = omega (arith, mul-le-mul-right (c .stride) (s .below), suc-mul i (c .stride), s .place)
 
-    module _ (i : ℕ) (s : Stands c i k) where
-      -- the one at the first offset is the first
-      pub first-number : k ≡ c .offset + 16 → i ≡ 0
-      first-number e = go i (s .place)
-        where
-          go : (j : ℕ) → k ≡ placeOf c j → j ≡ 0
-          go zero p = refl
-          go (suc j) p = absurd (omega (arith, suc-mul j (c .stride), inside .long))
+    -- the one at the first offset is the first
+    pub first-number : k ≡ c .offset + 16 → i ≡ 0
+    first-number e = go i (s .place)
+      where
+        go : (j : ℕ) → k ≡ placeOf c j → j ≡ 0
+        go zero p = refl
+        go (suc j) p = absurd (omega (arith, suc-mul j (c .stride), inside .long))
 
-      -- any other has a left neighbour
-      pub left-stands : (k ≡ c .offset + 16 → ⊥) → (0 < i) × (c .stride ≤ k) × Stands c (i - 1) (k - c .stride)
-      left-stands n = go i (s .below) (s .place)
-        where
-          go : (j : ℕ) → j < c .count → k ≡ placeOf c j → (0 < j) × (c .stride ≤ k) × Stands c (j - 1) (k - c .stride)
-          go zero l p = absurd (n (omega (arith, zero-mul (c .stride))))
-          go (suc j) l p =
-              let back : j ≡ suc j - 1 = omega arith in
-              let left : k - c .stride ≡ placeOf c j = omega (arith, suc-mul j (c .stride)) in (
-                omega arith,
-                omega (arith, suc-mul j (c .stride)),
-                record { below = omega arith; place = left ∙ ap (λ (x : ℕ). placeOf c x) back },
-              )
+    -- any other has a left neighbour
+    pub left-stands : (k ≡ c .offset + 16 → ⊥) → (0 < i) × (c .stride ≤ k) × Stands c (i - 1) (k - c .stride)
+    left-stands n = go i (s .below) (s .place)
+      where
+        go : (j : ℕ) → j < c .count → k ≡ placeOf c j → (0 < j) × (c .stride ≤ k) × Stands c (j - 1) (k - c .stride)
+        go zero l p = absurd (n (omega (arith, zero-mul (c .stride))))
+        go (suc j) l p =
+            let back : j ≡ suc j - 1 = omega arith in
+            let left : k - c .stride ≡ placeOf c j = omega (arith, suc-mul j (c .stride)) in (
+              omega arith,
+              omega (arith, suc-mul j (c .stride)),
+              record { below = omega arith; place = left ∙ ap (λ (x : ℕ). placeOf c x) back },
+            )
 
-      -- the one at the last offset is the last
-      pub last-number : k + c .stride ≡ c .offset + 16 + c .count * c .stride → c .count ≤ i + 1
-      last-number e =
-          le-of-mul-le-mul-right {k = c .stride} (omega (arith, add-mul i 1 (c .stride), one-mul (c .stride), s .place)) (omega (arith, inside .long))
+    -- the one at the last offset is the last
+    pub last-number : k + c .stride ≡ c .offset + 16 + c .count * c .stride → c .count ≤ i + 1
+    last-number e =
+        le-of-mul-le-mul-right {k = c .stride} (omega (arith, add-mul i 1 (c .stride), one-mul (c .stride), s .place)) (omega (arith, inside .long))
 
-      -- any other has a right neighbour
-      pub right-stands : (k + c .stride ≡ c .offset + 16 + c .count * c .stride → ⊥) → Stands c (i + 1) (k + c .stride)
-      right-stands n = go (ltb (i + 1) (c .count)) refl
-        where
-          next : k + c .stride ≡ placeOf c (i + 1)
-          next = omega (arith, add-mul i 1 (c .stride), one-mul (c .stride), s .place)
+    -- any other has a right neighbour
+    pub right-stands : (k + c .stride ≡ c .offset + 16 + c .count * c .stride → ⊥) → Stands c (i + 1) (k + c .stride)
+    right-stands n = go (ltb (i + 1) (c .count)) refl
+      where
+        next : k + c .stride ≡ placeOf c (i + 1)
+        next = omega (arith, add-mul i 1 (c .stride), one-mul (c .stride), s .place)
 
-          go : (t : Bool) → ltb (i + 1) (c .count) ≡ t → Stands c (i + 1) (k + c .stride)
-          go true t = record { below = ltb-true (i + 1) (c .count) t; place = next }
-          go false t =
-              let last : i + 1 ≡ c .count = omega (arith, ltb-false (i + 1) (c .count) t, s .below) in
-              absurd (n (next ∙ ap (λ (j : ℕ). placeOf c j) last))
+        go : (t : Bool) → ltb (i + 1) (c .count) ≡ t → Stands c (i + 1) (k + c .stride)
+        go true t = record { below = ltb-true (i + 1) (c .count) t; place = next }
+        go false t =
+            let last : i + 1 ≡ c .count = omega (arith, ltb-false (i + 1) (c .count) t, s .below) in
+            absurd (n (next ∙ ap (λ (j : ℕ). placeOf c j) last))
 
   -- what is read there
   module _ (bytes : List ℕ) (base i k : ℕ) (s : Stands c i k) where

@@ -1,7 +1,7 @@
 -- `lookup::left_meets` meets its contract. Assumes nothing.
 use mathlib.Core.Path.{_∙_}
 use native.Mathlib.Omega.{arith}
-use Rattle.lookup.proofs.Records.{stand-room, first-number, left-stands, stands-start, stands-end}
+use Rattle.lookup.proofs.Records.{stands-room, first-number, left-stands, stands-start, stands-end}
 use Rattle.lookup.proofs.Neighbours.{left-none, left-some}
 use borrow.Author.Needs.{needs}
 use Rattle.lookup.proofs.left_meets.Statement.{statement}
@@ -23,7 +23,7 @@ end-at-requires : tie.Need-end-at-requires
 end-at-requires c κs =
     let x = c .before .before .before .before in
     let left = left-stands _ _ (x .pre .0) _ _ (x .pre .1 .stands) (c .before .if1 .left) in
-    let room = stand-room _ _ (x .pre .0) _ (x .pre .1) in
+    let room = stands-room _ _ (x .pre .0) _ _ (x .pre .1 .stands) in
     omega (arith, left .1, x .pre .0 .long)
 
 returns-2 : tie.Need-returns-2

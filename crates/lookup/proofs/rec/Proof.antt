@@ -2,7 +2,7 @@
 use mathlib.Core.Path.{sym}
 use native.Mathlib.Omega.{arith}
 use borrow.Author.Tests.{eq-eqb, ne-eqb}
-use Rattle.lookup.proofs.Records.{stand-room}
+use Rattle.lookup.proofs.Records.{stands-room}
 use borrow.Author.Needs.{needs}
 use Rattle.lookup.proofs.rec.Statement.{statement}
 use Rattle.lookup.proofs.rec.Tie as tie
@@ -13,7 +13,7 @@ add-requires c κs = search needs
 record-at-requires : tie.Need-record-at-requires
 record-at-requires c κs =
     let s = c .before .before .before .before in
-    let room = stand-room _ _ (s .pre .0) _ (s .pre .1) in
+    let room = stands-room _ _ (s .pre .0) _ _ (s .pre .1 .stands) in
     omega (arith, s .pre .0 .longer (c .if1 .taken))
 
 returns : tie.Need-returns
@@ -25,7 +25,7 @@ add-requires-2 c κs = search needs
 record-at2-requires : tie.Need-record-at2-requires
 record-at2-requires c κs =
     let s = c .before .before .before .before .before in
-    let room = stand-room _ _ (s .pre .0) _ (s .pre .1) in
+    let room = stands-room _ _ (s .pre .0) _ _ (s .pre .1 .stands) in
     omega (arith, s .pre .0 .long)
 
 returns-2 : tie.Need-returns-2

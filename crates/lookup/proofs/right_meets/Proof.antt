@@ -1,7 +1,7 @@
 -- `lookup::right_meets` meets its contract. Assumes nothing.
 use mathlib.Core.Path.{_∙_}
 use native.Mathlib.Omega.{arith}
-use Rattle.lookup.proofs.Records.{stand-room, last-number, right-stands, stands-start, stands-end}
+use Rattle.lookup.proofs.Records.{stands-room, last-number, right-stands, stands-start, stands-end}
 use Rattle.lookup.proofs.Neighbours.{right-none, right-some}
 use borrow.Author.Needs.{needs}
 use Rattle.lookup.proofs.right_meets.Statement.{statement}
@@ -10,7 +10,7 @@ use Rattle.lookup.proofs.right_meets.Tie as tie
 add-next : tie.Need-add-next
 add-next c =
     let x = c .before .before in
-    let room = stand-room _ _ (x .pre .0) _ (x .pre .1) in
+    let room = stands-room _ _ (x .pre .0) _ _ (x .pre .1 .stands) in
     omega arith
 
 add-if1 : tie.Need-add-if1
@@ -29,7 +29,7 @@ start-at-requires : tie.Need-start-at-requires
 start-at-requires c κs =
     let x = c .before .before .before .before .before in
     let right = right-stands _ _ (x .pre .0) _ _ (x .pre .1 .stands) (c .if1 .left) in
-    let room = stand-room _ _ (x .pre .0) _ (record { index = _; stands = right }) in
+    let room = stands-room _ _ (x .pre .0) _ _ right in
     omega (arith, x .pre .0 .long)
 
 returns-2 : tie.Need-returns-2

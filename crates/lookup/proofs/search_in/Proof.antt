@@ -1,7 +1,7 @@
 -- `lookup::search_in` meets its contract. Assumes nothing.
 use mathlib.Core.Path.{_∙_}
 use native.Mathlib.Omega.{arith}
-use Rattle.lookup.proofs.Records.{stand-room, first-stands, last-stands, stands-start, stands-end}
+use Rattle.lookup.proofs.Records.{stands-room, first-stands, last-stands, stands-start, stands-end}
 use Rattle.lookup.proofs.Gate.{gate-empty, gate-below, gate-above, gate-open, search-shut, search-open}
 use borrow.Author.Needs.{needs}
 use Rattle.lookup.proofs.search_in.Statement.{statement}
@@ -16,8 +16,7 @@ add-first c = search needs
 start-at-requires : tie.Need-start-at-requires
 start-at-requires c κs =
     let x = c .before .before .before .before in
-    let first = first-stands (x .args .c) (omega arith) in
-    let room = stand-room _ _ (x .pre) _ (record { index = _; stands = first }) in
+    let room = stands-room _ _ (x .pre) _ _ (first-stands (x .args .c) (omega arith)) in
     omega (arith, x .pre .long)
 
 returns-2 : tie.Need-returns-2
@@ -32,22 +31,19 @@ sub-end-at c = search needs
 mul-end-at : tie.Need-mul-end-at
 mul-end-at c =
     let x = c .before .before .before .before .before .before .before .before in
-    let last = last-stands (x .args .c) (omega arith) in
-    let room = stand-room _ _ (x .pre) _ (record { index = _; stands = last }) in
+    let room = stands-room _ _ (x .pre) _ _ (last-stands (x .args .c) (omega arith)) in
     omega (arith, x .pre .long)
 
 add-end-at : tie.Need-add-end-at
 add-end-at c =
     let x = c .before .before .before .before .before .before .before .before in
-    let last = last-stands (x .args .c) (omega arith) in
-    let room = stand-room _ _ (x .pre) _ (record { index = _; stands = last }) in
+    let room = stands-room _ _ (x .pre) _ _ (last-stands (x .args .c) (omega arith)) in
     omega (arith, x .pre .long)
 
 end-at-requires : tie.Need-end-at-requires
 end-at-requires c κs =
     let x = c .before .before .before .before .before .before .before .before in
-    let last = last-stands (x .args .c) (omega arith) in
-    let room = stand-room _ _ (x .pre) _ (record { index = _; stands = last }) in
+    let room = stands-room _ _ (x .pre) _ _ (last-stands (x .args .c) (omega arith)) in
     omega (arith, x .pre .long)
 
 returns-3 : tie.Need-returns-3

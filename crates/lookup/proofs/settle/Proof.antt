@@ -1,7 +1,7 @@
 -- `lookup::settle` meets its contract. Assumes nothing.
 use mathlib.Core.Path.{refl, sym, _∙_}
 use native.Mathlib.Omega.{arith}
-use Rattle.lookup.proofs.Records.{stand-room, stands-start, stands-end, stands-record, holds-below, holds-above, holds-within}
+use Rattle.lookup.proofs.Records.{stands-room, stands-start, stands-end, stands-record, holds-below, holds-above, holds-within}
 use Rattle.lookup.proofs.Neighbours.{settle-left, settle-right, settle-not, settle-held}
 use Rattle.lookup.proofs.Halving.{search-halved}
 use borrow.Author.Needs.{needs}
@@ -11,7 +11,7 @@ use Rattle.lookup.proofs.settle.Tie as tie
 start-at-requires : tie.Need-start-at-requires
 start-at-requires c κs =
     let x = c .before in
-    let room = stand-room _ _ (x .pre .0) _ (record { index = _; stands = x .pre .1 }) in
+    let room = stands-room _ _ (x .pre .0) _ _ (x .pre .1) in
     omega (arith, x .pre .0 .long)
 
 left-meets-requires : tie.Need-left-meets-requires
@@ -26,7 +26,7 @@ returns c =
 end-at-requires : tie.Need-end-at-requires
 end-at-requires c κs =
     let x = c .before .before .before .before in
-    let room = stand-room _ _ (x .pre .0) _ (record { index = _; stands = x .pre .1 }) in
+    let room = stands-room _ _ (x .pre .0) _ _ (x .pre .1) in
     omega (arith, x .pre .0 .long)
 
 right-meets-requires : tie.Need-right-meets-requires

@@ -358,7 +358,7 @@ fn handler_in(section: &[u8], base: usize, table: usize, ret: usize) -> Row
             return judged_in(section, base, table, count, mid, offset);
         }
         lo = lo + kept(offset, ret, half + 1);
-        n = half - kept(offset, ret, 1 - n % 2);
+        n = (n - kept(offset, ret, 1)) / 2;
     }
     Row::None
 }

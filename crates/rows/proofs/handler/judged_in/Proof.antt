@@ -1,9 +1,9 @@
 -- `rows::handler::judged_in` meets its contract. Assumes nothing.
-use mathlib.Core.Path.{refl, sym, _∙_, ap}
+use mathlib.Core.Path.{sym, _∙_, ap}
 use Rattle.failure.specs.Outcome.{Answer}
 use Rattle.rows.specs.Handler.{row}
 use Rattle.rows.proofs.Entries.{judged-left, judged-right, judged-whole}
-use Rattle.rows.proofs.Held.{judged-there, entry-of, entry-there, entry-in}
+use Rattle.rows.proofs.Held.{judged-there, entry-there, entry-in}
 use borrow.Author.Needs.{needs}
 use Rattle.rows.proofs.handler.judged_in.Statement.{statement}
 use Rattle.rows.proofs.handler.judged_in.Tie as tie

@@ -58,7 +58,12 @@ judged-in-requires : tie.Need-judged-in-requires Inv-loop μ-loop
 judged-in-requires c κs =
     let l = c .before in
     let s = l .before .before .loop .inv in
-    (s .1, omega (arith, s .0 .within, l .before .loop-test .taken), l .u32-in2 .ensures .0, l .u32-in2 .ensures .1)
+    record {
+      whole = s .1;
+      inside = omega (arith, s .0 .within, l .before .loop-test .taken);
+      read = l .u32-in2 .ensures .0;
+      small = l .u32-in2 .ensures .1;
+    }
 
 returns : tie.Need-returns Inv-loop μ-loop
 returns c =

@@ -2,7 +2,7 @@
 use mathlib.Core.Path.{_≡_, refl, sym, _∙_, ap, subst}
 use mathlib.Core.Bool.{Bool, true, false}
 use mathlib.Core.List.{List, [], _∷_}
-use Prim.Native.Nat.{ℕ, suc, _+_, _-_, _*_, _/_, _%_, _^_, _≤_, _<_}
+use Prim.Native.Nat.{ℕ, suc, _+_, _-_, _*_, _/_, _^_, _≤_, _<_}
 use native.Mathlib.Nat.{mod-eq-of-lt}
 use native.Mathlib.Numerals.{add-one}
 use native.Mathlib.Omega.{arith}
@@ -10,7 +10,7 @@ use lib.Dec.{ltb, leb, eqb}
 use lib.ListN.{length, getD, take, drop}
 use lib.Seq.{drop-cons}
 use borrow.Author.Tests.{ltb-true, ltb-false, leb-true, leb-false, eqb-true, eqb-false, lt-ltb, le-ltb}
-use Rattle.failure.specs.Outcome.{Outcome, Refused, Answer, _>>=_}
+use Rattle.failure.specs.Outcome.{Outcome, Answer}
 use Rattle.mem.specs.Memory.{Memory}
 use Rattle.mem.specs.Place.{holds, bytesAt}
 use Rattle.mem.specs.Word.{littleEndian, load}
@@ -172,20 +172,20 @@ module _ (section : List ℕ) (base : ℕ) where
           turn-found (alone section base) table ret count lo (lo + n) s (omega arith) (entry-of (lo + n / 2) offset) read is o
           (q ∙ ap (λ (k : ℕ). judgedAt (alone section base) table count k) middle ∙ rw (sym read))
 
-      pub turn-in : (offset ≡ ret → ⊥) → (a b : ℕ) → a ≡ kept offset ret (n / 2 + 1) → b ≡ kept offset ret (1 - n % 2) →
-          Left (alone section base) table count ret (lo + a) (lo + a + (n / 2 - b))
+      pub turn-in : (offset ≡ ret → ⊥) → (a b : ℕ) → a ≡ kept offset ret (n / 2 + 1) → b ≡ kept offset ret 1 →
+          Left (alone section base) table count ret (lo + a) (lo + a + (n - b) / 2)
       turn-in other a b u v = go (ltb offset ret) refl
         where
-          moved : (l h : ℕ) → l ≡ lo + a → h ≡ lo + a + (n / 2 - b) → Left (alone section base) table count ret l h →
-              Left (alone section base) table count ret (lo + a) (lo + a + (n / 2 - b))
+          moved : (l h : ℕ) → l ≡ lo + a → h ≡ lo + a + (n - b) / 2 → Left (alone section base) table count ret l h →
+              Left (alone section base) table count ret (lo + a) (lo + a + (n - b) / 2)
           moved l h d e x =
               subst (λ (k : ℕ). Left (alone section base) table count ret (lo + a) k) e
               (subst (λ (k : ℕ). Left (alone section base) table count ret k h) d x)
 
-          go : (t : Bool) → ltb offset ret ≡ t → Left (alone section base) table count ret (lo + a) (lo + a + (n / 2 - b))
+          go : (t : Bool) → ltb offset ret ≡ t → Left (alone section base) table count ret (lo + a) (lo + a + (n - b) / 2)
           go true t =
               let x : a ≡ n / 2 + 1 = rw t at u in
-              let y : b ≡ 1 - n % 2 = rw t at v in
+              let y : b ≡ 1 = rw t at v in
               moved (lo + (lo + n - lo) / 2 + 1) (lo + n) (omega (arith, middle)) (omega arith)
               (turn-above (alone section base) table ret count lo (lo + n) s (omega arith) (entry-of (lo + n / 2) offset) read other (ltb-true offset ret t))
           go false t =

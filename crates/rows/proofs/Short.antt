@@ -6,16 +6,16 @@ use native.Mathlib.Omega.{arith}
 use lib.Dec.{ltb, eqb}
 use lib.ListN.{length, getD}
 use borrow.Author.Tests.{lt-ltb, le-ltb, eq-eqb, ne-eqb}
-use Rattle.failure.specs.Outcome.{Outcome, Refused, Answer, _>>=_}
+use Rattle.failure.specs.Outcome.{Outcome, Answer}
 use Rattle.mem.specs.Memory.{Memory}
 use Rattle.mem.specs.Place.{holds, bytesAt}
 use Rattle.mem.specs.Word.{load}
 use Rattle.mem.proofs.Place.{holds-when}
-use Rattle.leb.specs.Reader.{byteAt, ulebAt, Read, numbered}
+use Rattle.leb.specs.Reader.{byteAt, ulebAt, Read}
 use Rattle.leb.specs.declared.Byte.the-variants.{Is}
 use Rattle.leb.proofs.Reader.{byte-loaded}
 use Rattle.rows.specs.Row.{Found, None, checked}
-use Rattle.rows.specs.Handler2.{uleb, matched, decide, rowsFrom}
+use Rattle.rows.specs.Handler2.{uleb, matched, rowsFrom}
 use Rattle.rows.specs.Held.{alone}
 use Rattle.rows.specs.Answers.{Says, worded}
 use Rattle.rows.specs.declared.handler2.Short.{Short}

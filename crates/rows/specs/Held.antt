@@ -32,6 +32,13 @@ pub record Held (section : List ℕ) (base table : ℕ) : Type 0 where
   pub counted : Answer count ≡ load (alone section base) 4 table
   pub whole : Whole section base table count
 
+-- row i of such a table has the return offset
+pub record RowAt (section : List ℕ) (base table count i offset : ℕ) : Type 0 where
+  pub whole : Whole section base table count
+  pub inside : i < count
+  pub read : Answer offset ≡ load (alone section base) 4 (table + 4 + 12 * i)
+  pub small : offset < 2 ^ 32
+
 -- row i, read and judged
 unfoldable pub judgedAt : Memory → ℕ → ℕ → ℕ → Outcome Found
 judgedAt m table count i = do

@@ -9,7 +9,7 @@ ghost use Rattle.mem.specs.Word.{load};
 ghost use Rattle.rows.specs.Row.{found};
 ghost use Rattle.rows.specs.Handler as Handler;
 ghost use Rattle.rows.specs.Answers.{entry, breaks};
-ghost use Rattle.rows.specs.Held.{alone, Whole, Held, judgedAt, lesser, kept};
+ghost use Rattle.rows.specs.Held.{alone, Held, RowAt, judgedAt, lesser, kept};
 use crate::Row;
 use crate::checked;
 use crate::wide;
@@ -280,9 +280,7 @@ fn left_breaks_in(
     i: usize,
     offset: usize,
 ) -> bool
-    requires { ⌜
-        Whole (now section) base table count × (i < count) × (Answer offset ≡ load (alone (now section) base) 4 (table + 4 + 12 * i))
-        ⌝ }
+    requires { ⌜ RowAt (now section) base table count i offset ⌝ }
     ensures { λ r. ⌜ Answer r ≡ Handler.leftBreaks (alone (now (section .entry)) base) table i offset ⌝ }
 {
     let left = row_before(i);
@@ -298,9 +296,7 @@ fn right_breaks_in(
     i: usize,
     offset: usize,
 ) -> bool
-    requires { ⌜
-        Whole (now section) base table count × (i < count) × (Answer offset ≡ load (alone (now section) base) 4 (table + 4 + 12 * i)) × (offset < 2 ^ 32)
-        ⌝ }
+    requires { ⌜ RowAt (now section) base table count i offset ⌝ }
     ensures { λ r. ⌜ Answer r ≡ Handler.rightBreaks (alone (now (section .entry)) base) table count i offset ⌝ }
 {
     let right = row_after(i, count);
@@ -316,9 +312,7 @@ fn judged_in(
     i: usize,
     offset: usize,
 ) -> Row
-    requires { ⌜
-        Whole (now section) base table count × (i < count) × (Answer offset ≡ load (alone (now section) base) 4 (table + 4 + 12 * i)) × (offset < 2 ^ 32)
-        ⌝ }
+    requires { ⌜ RowAt (now section) base table count i offset ⌝ }
     ensures { λ r. ⌜ found r ≡ judgedAt (alone (now (section .entry)) base) table count i ⌝ }
 {
     if left_breaks_in(section, base, table, count, i, offset) {
@@ -358,7 +352,7 @@ fn handler_in(section: &[u8], base: usize, table: usize, ret: usize) -> Row
             return judged_in(section, base, table, count, mid, offset);
         }
         lo = lo + kept(offset, ret, half + 1);
-        n = half - kept(offset, ret, 1 - n % 2);
+        n = (n - kept(offset, ret, 1)) / 2;
     }
     Row::None
 }

@@ -1,5 +1,5 @@
 -- `rows::handler::handler_in` meets its contract. Each turn halves the rows that are left. Assumes nothing.
-use Prim.Native.Nat.{_+_, _/_, _%_}
+use Prim.Native.Nat.{_+_}
 use native.Mathlib.Omega.{arith}
 use Rattle.rows.specs.Held.{alone, Whole}
 use Rattle.rows.proofs.Halving.{Left, over}
@@ -58,7 +58,12 @@ judged-in-requires : tie.Need-judged-in-requires Inv-loop μ-loop
 judged-in-requires c κs =
     let l = c .before in
     let s = l .before .before .loop .inv in
-    (s .1, omega (arith, s .0 .within, l .before .loop-test .taken), l .u32-in2 .ensures .0, l .u32-in2 .ensures .1)
+    record {
+      whole = s .1;
+      inside = omega (arith, s .0 .within, l .before .loop-test .taken);
+      read = l .u32-in2 .ensures .0;
+      small = l .u32-in2 .ensures .1;
+    }
 
 returns : tie.Need-returns Inv-loop μ-loop
 returns c =
@@ -79,9 +84,6 @@ add-lo c =
     let l = c .before .before in
     let s = l .before .before .loop .inv in
     omega (arith, s .0 .within, s .1 .few, c .kept .ensures .1, l .before .loop-test .taken)
-
-sub-kept : tie.Need-sub-kept Inv-loop μ-loop
-sub-kept c = search needs
 
 kept-requires-2 : tie.Need-kept-requires-2 Inv-loop μ-loop
 kept-requires-2 c κs = search needs
@@ -122,7 +124,6 @@ handler-in-spec =
     add-kept
     kept-requires
     add-lo
-    sub-kept
     kept-requires-2
     sub-n
     loop-less

@@ -1,9 +1,9 @@
 -- `rows::handler::judged_in` meets its contract. Assumes nothing.
-use mathlib.Core.Path.{refl, sym, _∙_, ap}
+use mathlib.Core.Path.{sym, _∙_, ap}
 use Rattle.failure.specs.Outcome.{Answer}
 use Rattle.rows.specs.Handler.{row}
 use Rattle.rows.proofs.Entries.{judged-left, judged-right, judged-whole}
-use Rattle.rows.proofs.Held.{judged-there, entry-of, entry-there, entry-in}
+use Rattle.rows.proofs.Held.{judged-there, entry-there, entry-in}
 use borrow.Author.Needs.{needs}
 use Rattle.rows.proofs.handler.judged_in.Statement.{statement}
 use Rattle.rows.proofs.handler.judged_in.Tie as tie
@@ -14,7 +14,7 @@ left-breaks-in-requires c κs = search needs
 returns : tie.Need-returns
 returns c =
     let p = c .before .before .before .pre in
-    judged-there _ _ _ _ _ (entry-there _ _ _ _ (p .0) _ _ (p .1) (p .2)) _
+    judged-there _ _ _ _ _ (entry-there _ _ _ _ (p .whole) _ _ (p .inside) (p .read)) _
     (judged-left _ _ _ _ _ (ap Answer (sym (c .if1 .taken)) ∙ c .before .left-breaks-in .ensures))
 
 right-breaks-in-requires : tie.Need-right-breaks-in-requires
@@ -24,7 +24,7 @@ returns-2 : tie.Need-returns-2
 returns-2 c =
     let l = c .before .before in
     let p = l .before .before .before .pre in
-    judged-there _ _ _ _ _ (entry-there _ _ _ _ (p .0) _ _ (p .1) (p .2)) _
+    judged-there _ _ _ _ _ (entry-there _ _ _ _ (p .whole) _ _ (p .inside) (p .read)) _
     (judged-right _ _ _ _ _ (ap Answer (sym (l .if1 .left)) ∙ l .before .left-breaks-in .ensures) (ap Answer (sym (c .if2 .taken)) ∙ c .before .right-breaks-in .ensures))
 
 add-u32-in : tie.Need-add-u32-in
@@ -59,7 +59,7 @@ returns-3 c =
     let k = c .before .before .before in
     let l = k .before .before in
     let p = l .before .before .before .pre in
-    judged-there _ _ _ _ (row _ _ _) (entry-in _ _ _ _ (p .0) _ _ _ _ (p .1) (p .2) (c .before .before .u32-in .ensures .0) (c .before .u32-in2 .ensures .0)) _
+    judged-there _ _ _ _ (row _ _ _) (entry-in _ _ _ _ (p .whole) _ _ _ _ (p .inside) (p .read) (c .before .before .u32-in .ensures .0) (c .before .u32-in2 .ensures .0)) _
     (judged-whole _ _ _ _ (row _ _ _) (ap Answer (sym (l .if1 .left)) ∙ l .before .left-breaks-in .ensures) (ap Answer (sym (k .if2 .left)) ∙ k .before .right-breaks-in .ensures) _ (c .checked .ensures))
 
 pub judged-in-spec : {M : Type 1} → statement M

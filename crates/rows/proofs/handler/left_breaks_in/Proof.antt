@@ -29,7 +29,7 @@ returns : tie.Need-returns
 returns c =
     let l = c .before in
     let p = l .before .before .pre in
-    left-in _ _ _ _ (p .0) _ _ (p .1) (p .2) _ _ (l .row-before .ensures) (c .u32-in .ensures .0)
+    left-in _ _ _ _ (p .whole) _ _ (p .inside) (p .read) _ _ (l .row-before .ensures) (c .u32-in .ensures .0)
 
 pub left-breaks-in-spec : {M : Type 1} → statement M
 left-breaks-in-spec =

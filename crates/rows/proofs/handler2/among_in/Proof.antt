@@ -1,6 +1,6 @@
 -- `rows::handler2::among_in` meets its contract. Each turn passes a row. Assumes nothing.
 use mathlib.Core.Path.{_≡_, refl, sym, _∙_, ap}
-use Prim.Native.Nat.{ℕ, suc, _-_, _≤_, _<_}
+use Prim.Native.Nat.{ℕ, suc, _-_, _≤_}
 use native.Mathlib.Omega.{arith}
 use Rattle.leb.proofs.Numbers.{small}
 use Rattle.rows.specs.Handler2.{rowsFrom}

@@ -1,5 +1,4 @@
 -- `rows::handler2::settled` meets its contract. Assumes nothing.
-use mathlib.Core.Path.{sym, _∙_}
 use borrow.Author.Tests.{eq-eqb, ne-eqb}
 use borrow.Author.Needs.{needs}
 use Rattle.rows.proofs.handler2.settled.Statement.{statement}

@@ -2,3 +2,6 @@
 pub mod Cursor
 pub mod Lent
 pub mod Held
+pub mod Params
+pub mod Reading
+pub mod Making

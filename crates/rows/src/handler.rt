@@ -163,7 +163,7 @@ fn judged<'a>(
     checked(pad, action)
 }
 
-// The row of a return offset in the table.
+// The row of a return offset in the table, wherever it lies.
 fn handler_anywhere<'a>(
     section: &'a [u8],
     section_base: usize,

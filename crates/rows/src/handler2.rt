@@ -147,7 +147,7 @@ fn next_row<'a>(
     }
 }
 
-// The row of a return offset in the table.
+// The row of a return offset in the table, wherever it lies.
 fn handler2_anywhere<'a>(
     section: &'a [u8],
     section_base: usize,
@@ -214,15 +214,16 @@ fn among<'a>(
     Row::None
 }
 
-// A table in the section, of numbers of at most three bytes; whatever else it holds is left unsettled.
+// A table in the section, read there as long as no number has more than three bytes. A row is answered as its word: a number
+// needs no memory to pass through.
 
-// No row has the return offset.
+// The word where no row has the return offset.
 const NO_ROW: usize = 0x1_0000_0000;
 
-// The section alone does not say.
+// The word that leaves the answer to `handler2_anywhere`: a longer number, a refusal, or bytes outside the section.
 const UNSETTLED: usize = 0x2_0000_0000;
 
-// A number of at most three bytes and the position after it, or another one.
+// A number of at most three bytes and the position after it, or any other case.
 enum Short {
     Is(usize, usize),
     Long,

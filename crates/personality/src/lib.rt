@@ -53,7 +53,7 @@ pub struct Decided {
 }
 
 // A frame has no row: it was interrupted, has no table, or its pc lies below its start.
-fn rowless(interrupted: bool, record: Record, pc: usize) -> bool
+pub fn rowless(interrupted: bool, record: Record, pc: usize) -> bool
     ensures { λ r. ⌜ r ≡ Spec.rowless interrupted «record» pc ⌝ }
 {
     if interrupted {

@@ -3,12 +3,12 @@ use mathlib.Core.Path.{_≡_, refl, sym, _∙_, ap}
 use mathlib.Core.Bool.{Bool, true, false}
 use mathlib.Core.List.{List}
 use mathlib.Core.Option.{Option, none, some}
-use Prim.Native.Nat.{ℕ, _<_}
+use Prim.Native.Nat.{ℕ, _-_, _^_, _<_}
 use native.Mathlib.Omega.{arith}
 use Rattle.failure.specs.Outcome as Outcome
 use Rattle.failure.specs.Outcome.{Outcome, Answer, _>>=_}
 use Rattle.mem.specs.Memory.{Memory}
-use Rattle.arch.specs.Arch.{numbers}
+use Rattle.arch.specs.Arch.{Arch, numbers}
 use Rattle.arch.specs.File.{pc}
 use Rattle.arch.specs.declared.Status.{Status}
 use Rattle.arch.specs.declared.Status.the-variants as status
@@ -16,17 +16,26 @@ use Rattle.rows.specs.Row.{Found, found}
 use Rattle.rows.specs.declared.Row.{Row}
 use Rattle.rows.specs.declared.Row.the-variants as row
 use Rattle.lookup.specs.declared.Record.{Record}
-use Rattle.personality.specs.Reason.{rowOf}
+use Rattle.personality.specs.Reason.{rowless, offsetIn, rowAfter, rowOf}
+use Rattle.personality.proofs.Reasons.{row-2, after-run, after-refused}
+use Rattle.state.specs.declared.State.{State}
+use Rattle.program.specs.Run.{Ran, run}
+use Rattle.program.specs.Answers.{ended, through}
+use Rattle.program.specs.declared.Through.{Through}
+use Rattle.rows.specs.Handler2.{handler2}
+use Rattle.program.specs.declared.Status.the-variants as ending
+use Rattle.frame.specs.Layout.{layout}
+use Rattle.frame.specs.Apply.{apply}
 use Rattle.model.specs.FrameStep as Walk
-use Rattle.model.specs.FrameStep.{Frame, Step, sectionOf, callerOf, past, frameStep}
+use Rattle.model.specs.FrameStep.{Frame, Step, sectionOf, callerOf, callerFile, past, frameStep}
 use Rattle.unwind.specs.Answers.{stepped, staying}
-use Rattle.unwind.specs.Turns.{passed, recordOf, located, Seen, End, Rowless, WithRow, seenAs, seenAt, seen, meeting}
+use Rattle.unwind.specs.Turns.{passed, recordOf, located, Seen, End, Rowless, WithRow, seenAs, seenAt, seen, callerByRun, metRow, rowPast, meeting}
 use Rattle.unwind.specs.declared.Walked.the-variants as walked
 use Rattle.unwind.specs.declared.Located.{Located}
 use Rattle.unwind.specs.declared.Located.the-variants as place
 use Rattle.unwind.specs.declared.Met.{Met}
 use Rattle.unwind.specs.declared.Met.the-variants as met
-use Rattle.unwind.proofs.Walks.{pastRecord, recordIn, step-by-record, record-bounds}
+use Rattle.unwind.proofs.Walks.{pastRecord, recordIn, step-by-record, record-bounds, by-run, by-run-refused, caller-2}
 
 module _ (arch : ℕ) (m : Memory) (f : Frame) (l v : Located) (e : located l ≡ recordIn arch m f) (p : l ≡ v) where
   -- the frame step, by the record that was located
@@ -59,13 +68,61 @@ module _ (arch : ℕ) (m : Memory) (f : Frame) (r : Record) (at : ℕ) (q : at �
   meets-refused n p = by-past (Outcome.Refused n) p
 
   -- past the frame, by its row
-  pub meets-row : (file : List ℕ) → past (numbers arch) m f r ≡ Answer (Walk.Past r (callerOf f file)) → (x y : Row) →
-      found x ≡ rowOf (numbers arch) m (f .interrupted) r at → x ≡ y →
-      (found y >>= λ z. Answer (seenAs r (callerOf f file) z)) ≡ seen arch m f
-  meets-row file p x y g h =
-      ap (λ (o : Outcome Found). o >>= λ z. Answer (seenAs r (callerOf f file) z))
-      (ap found (sym h) ∙ g ∙ ap (λ (k : ℕ). rowOf (numbers arch) m (f .interrupted) r k) q)
+  pub meets-row : (file : List ℕ) → past (numbers arch) m f r ≡ Answer (Walk.Past r (callerOf f file)) → (x : Row) →
+      found x ≡ rowOf (numbers arch) m (f .interrupted) r at → (w : Met) → w ≡ metRow (r .start) x → meeting f file w ≡ seen arch m f
+  meets-row file p x g w h =
+      ap (λ (y : Met). meeting f file y) h
+      ∙ by-row x
+      ∙ ap (λ (o : Outcome Found). o >>= λ z. Answer (seenAs r (callerOf f file) z))
+      (g ∙ ap (λ (k : ℕ). rowOf (numbers arch) m (f .interrupted) r k) q)
       ∙ by-past (Answer (Walk.Past r (callerOf f file))) p
+    where
+      by-row : (x : Row) → meeting f file (metRow (r .start) x) ≡ (found x >>= λ z. Answer (seenAs r (callerOf f file) z))
+      by-row row.None = refl
+      by-row (row.Is pad action) = refl
+      by-row (row.Refused n) = refl
+
+-- what two runs in one pass say, where the record's version is 2
+module _ (a : Arch) (m : Memory) (r : Record) (entry : State) (off : ℕ) (t : Through)
+    (e : t ≡ through entry (run m a (r .program) (r .limit) off) (run m a (r .program) (r .limit) (2 ^ 64 - 1))) where
+  -- the row after the program's END
+  pub row-through : (interrupted : Bool) (at : ℕ) → rowless interrupted r at ≡ false → r .version ≡ 2 → (o : Outcome Found) →
+      o ≡ rowPast m (t .end) (t .after) (r .limit) (offsetIn r at) → o ≡ rowOf a m interrupted r at
+  row-through interrupted at h v o p =
+      row-2 a m interrupted r at h v o
+      (p ∙ ap (λ (x : Through). rowPast m (x .end) (x .after) (r .limit) (offsetIn r at)) e
+      ∙ go (run m a (r .program) (r .limit) (2 ^ 64 - 1)) refl)
+    where
+      go : (y : Outcome Ran) → run m a (r .program) (r .limit) (2 ^ 64 - 1) ≡ y →
+          rowPast m (ended entry y .status) (ended entry y .after) (r .limit) (offsetIn r at) ≡ rowAfter a m r (offsetIn r at)
+      go (Outcome.Refused n) q = after-refused a m r (offsetIn r at) n q
+      go (Answer ran) q = after-run a m r (offsetIn r at) ran q (handler2 m (ran .after) (r .limit) (offsetIn r at)) refl
+
+  module _ (interrupted : Bool) (at : ℕ) (file : List ℕ) (v : r .version ≡ 2) (d : off ≡ at - r .start) where
+    -- the caller's registers, by the state at the offset
+    pub state-through : t .status ≡ ending.Done → apply a m (layout (t .state)) file ≡ callerFile a m interrupted r at file
+    state-through p =
+        ap (λ (x : Through). apply a m (layout (x .state)) file) e
+        ∙ go (run m a (r .program) (r .limit) off) refl (sym (ap (λ (x : Through). x .status) e) ∙ p)
+        ∙ caller-2 a m interrupted r at file v off d
+      where
+        go : (x : Outcome Ran) → run m a (r .program) (r .limit) off ≡ x → ended entry x .status ≡ ending.Done →
+            apply a m (layout (ended entry x .state)) file ≡ callerByRun a m (r .program) (r .limit) off file
+        go (Outcome.Refused n) q k = let z : _≡_ {A = ℕ} 0 1 = cc in absurd (omega arith)
+        go (Answer ran) q k = by-run a m (r .program) (r .limit) off file ran q
+
+    -- unless that run is refused
+    pub refused-through : (n : ℕ) → t .status ≡ ending.Refused n → Outcome.Refused n ≡ callerFile a m interrupted r at file
+    refused-through n p =
+        go (run m a (r .program) (r .limit) off) refl (sym (ap (λ (x : Through). x .status) e) ∙ p)
+        ∙ caller-2 a m interrupted r at file v off d
+      where
+        go : (x : Outcome Ran) → run m a (r .program) (r .limit) off ≡ x → ended entry x .status ≡ ending.Refused n →
+            Outcome.Refused n ≡ callerByRun a m (r .program) (r .limit) off file
+        go (Outcome.Refused k) q h =
+            let z : n ≡ k = cc in
+            ap Outcome.Refused z ∙ by-run-refused a m (r .program) (r .limit) off file k q
+        go (Answer ran) q h = let z : _≡_ {A = ℕ} 0 1 = cc in absurd (omega arith)
 
 -- the answer of a step, beside the frame that came in
 pub stays : (f : Frame) (o : Outcome Step) → Answer Walk.End ≡ o → staying walked.End f ≡ stepped f o

@@ -29,7 +29,7 @@ use Rattle.frame.specs.Apply.{apply}
 use Rattle.frame.specs.Step.{step}
 use Rattle.model.specs.FrameStep as Walk
 use Rattle.model.specs.FrameStep.{Frame, Step, sectionOf, lookedUp, callerFile, notAdvancing, callerOf, past, pastFound, frameStep}
-use Rattle.unwind.specs.Turns.{fileTold, callerByRun, passed, functionOf, recordOf}
+use Rattle.unwind.specs.Turns.{fileTold, callerByRun, advanced, passed, functionOf, recordOf}
 
 -- a file by value tells the outcome that it was made of
 pub next-told : (regs : Regs) (o : Outcome (List ℕ)) (r : Next) → r ≡ next regs o → fileTold (r .status) (r .regs .r) ≡ o
@@ -70,23 +70,32 @@ module _ (a : Arch) (m : Memory) (interrupted : Bool) (r : Record) (at : ℕ) (f
   unfolding callerFile callerByRun
   caller-2 v off e = rw (eq-eqb (r .version) 2 v, sym e)
 
-module _ (a : Arch) (m : Memory) (f : Frame) (r : Record) (at : ℕ) (e : at ≡ lookedUp (f .interrupted) (pc (f .file))) where
-  -- the caller's registers are refused
-  pub past-refused : (n : ℕ) → callerFile a m (f .interrupted) r at (f .file) ≡ Outcome.Refused n → Outcome.Refused n ≡ past a m f r
-  unfolding past
-  past-refused n p = rw (sym e, p)
+-- past a frame with its record: the caller's registers, then 20
+pub past-told : (a : Arch) (m : Memory) (f : Frame) (r : Record) (at : ℕ) → at ≡ lookedUp (f .interrupted) (pc (f .file)) →
+    (s : Status) (file : List ℕ) → fileTold s file ≡ callerFile a m (f .interrupted) r at (f .file) → (k : ℕ) → k ≡ a .sp →
+    (t : Status) → t ≡ advanced (f .number) (getD (f .file) k 0) (getD file k 0) s → passed f r t file ≡ past a m f r
+unfolding past notAdvancing
+past-told a m f r at looked s file p k q t e =
+    ap (λ (x : Status). passed f r x file) e
+    ∙ ap (λ (x : ℕ). passed f r (advanced (f .number) (getD (f .file) x 0) (getD file x 0) s) file) q
+    ∙ by-status s
+    ∙ ap (λ (o : Outcome (List ℕ)). o >>= after) p
+    ∙ ap (λ (x : ℕ). callerFile a m (f .interrupted) r x (f .file) >>= after) looked
+  where
+    after : List ℕ → Outcome Step
+    after next =
+        if notAdvancing a (f .number) (f .file) next then Outcome.Refused StackNotAdvancing
+        else Answer (Walk.Past r (callerOf f next))
 
-  module _ (file : List ℕ) (p : callerFile a m (f .interrupted) r at (f .file) ≡ Answer file) (k : ℕ) (q : k ≡ a .sp) (t : Bool)
-      (c : t ≡ (ltb (getD file k 0) (getD (f .file) k 0) || (not (eqb (f .number) 0) && eqb (getD file k 0) (getD (f .file) k 0)))) where
-    -- sp does not advance
-    pub past-20 : t ≡ true → Outcome.Refused StackNotAdvancing ≡ past a m f r
-    unfolding past notAdvancing
-    past-20 d = rw (sym e, p) (rw (sym q) (rw (sym c, d)))
+    by-test : (b : Bool) →
+        passed f r (if b then status.Refused StackNotAdvancing else status.Done) file
+        ≡ (if b then Outcome.Refused StackNotAdvancing else Answer (Walk.Past r (callerOf f file)))
+    by-test true = refl
+    by-test false = refl
 
-    -- it does
-    pub past-on : t ≡ false → Answer (Walk.Past r (callerOf f file)) ≡ past a m f r
-    unfolding past notAdvancing
-    past-on d = rw (sym e, p) (rw (sym q) (rw (sym c, d)))
+    by-status : (s : Status) → passed f r (advanced (f .number) (sp a (f .file)) (sp a file) s) file ≡ (fileTold s file >>= after)
+    by-status status.Done = by-test (notAdvancing a (f .number) (f .file) file)
+    by-status (status.Refused n) = refl
 
 module _ (section : List ℕ) (base arch number : ℕ) (interrupted : Bool) (at : ℕ) where
   -- pc 0 ends the walk

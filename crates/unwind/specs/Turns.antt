@@ -8,18 +8,23 @@ use lib.Dec.{eqb, ltb}
 use Rattle.failure.specs.Choice.{if_then_else_}
 use Rattle.failure.specs.Outcome as Outcome
 use Rattle.failure.specs.Outcome.{Outcome, Answer, _>>=_}
-use Rattle.failure.specs.Failure.{TooManyFrames, HandlerFrameMissed}
+use Rattle.failure.specs.Failure.{StackNotAdvancing, TooManyFrames, HandlerFrameMissed}
 use Rattle.mem.specs.Memory.{Memory}
 use Rattle.arch.specs.Arch.{Arch, numbers}
 use Rattle.arch.specs.File.{pc}
 use Rattle.arch.specs.declared.Status.{Status}
 use Rattle.arch.specs.declared.Status.the-variants as status
-use Rattle.rows.specs.Row as Row
+use Rattle.rows.specs.Row as Found
 use Rattle.rows.specs.Row.{Found, cleanup, catch}
+use Rattle.rows.specs.declared.Row.{Row}
+use Rattle.rows.specs.declared.Row.the-variants as row
+use Rattle.rows.specs.Handler2.{handler2}
 use Rattle.lookup.specs.declared.Record.{Record}
 use Rattle.lookup.specs.Lookup as Lookup
 use Rattle.personality.specs.Reason.{rowOf, installed, searchedCode, handlerFound, fatalPhase1}
 use Rattle.program.specs.Run.{run}
+use Rattle.program.specs.declared.Status.{Status as Ending}
+use Rattle.program.specs.declared.Status.the-variants as ending
 use Rattle.frame.specs.Layout.{layout}
 use Rattle.frame.specs.Apply.{apply}
 use Rattle.model.specs.FrameStep as Walk
@@ -48,6 +53,12 @@ unfoldable pub callerByRun : Arch → Memory → ℕ → ℕ → ℕ → List �
 callerByRun a m program limit off file = do
   ran ← run m a program limit off
   apply a m (layout (ran .state)) file
+
+-- the status of the caller's registers, then 20: sp is lower than before, or equal past the first frame
+abbrev pub advanced : ℕ → ℕ → ℕ → Status → Status
+advanced number before after status.Done =
+    if ltb after before || (not (eqb number 0) && eqb after before) then status.Refused StackNotAdvancing else status.Done
+advanced number before after (status.Refused n) = status.Refused n
 
 -- the step of a frame with this record that a status tells of, beside the file as it is then
 abbrev pub passed : Frame → Record → Status → List ℕ → Outcome Step
@@ -81,8 +92,8 @@ pub data Seen : Type 0 where
   WithRow : Frame → (start pad action : ℕ) → Seen
 
 abbrev pub seenAs : Record → Frame → Found → Seen
-seenAs r next Row.None = Rowless next
-seenAs r next (Row.Pad pad action) = WithRow next (r .start) pad action
+seenAs r next Found.None = Rowless next
+seenAs r next (Found.Pad pad action) = WithRow next (r .start) pad action
 
 abbrev pub seenAt : ℕ → Memory → Frame → Step → Outcome Seen
 seenAt arch m f Walk.End = Answer End
@@ -93,6 +104,21 @@ seenAt arch m f (Walk.Past r next) = do
 -- a frame's step, then its row
 unfoldable pub seen : ℕ → Memory → Frame → Outcome Seen
 seen arch m f = frameStep arch m f >>= seenAt arch m f
+
+-- the after-address of a run that came to this status
+abbrev pub endTold : Ending → ℕ → Outcome ℕ
+endTold ending.Done after = Answer after
+endTold (ending.Refused n) after = Outcome.Refused n
+
+-- the row of version 2, where the program's run through all offsets came to this status and after-address
+abbrev pub rowPast : Memory → Ending → ℕ → ℕ → ℕ → Outcome Found
+rowPast m end after limit ret = endTold end after >>= λ next. handler2 m next limit ret
+
+-- a row that was found, with the start of its record
+abbrev pub metRow : ℕ → Row → Met
+metRow start row.None = met.Rowless
+metRow start (row.Is pad action) = met.Row start pad action
+metRow start (row.Refused n) = met.Refused n
 
 -- the same as the code tells it, where the caller has this file
 abbrev pub meeting : Frame → List ℕ → Met → Outcome Seen

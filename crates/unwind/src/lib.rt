@@ -13,13 +13,17 @@ ghost use Rattle.mem.specs.Opening.{opens};
 ghost use Rattle.mem.specs.Wrapping.{sum};
 ghost use Rattle.arch.specs.Arch.{numbers, isKnown};
 ghost use Rattle.arch.specs.File as File;
+ghost use Rattle.rows.specs.Row.{found};
+ghost use Rattle.frame.specs.Layout.{layout};
+ghost use Rattle.frame.specs.Apply.{apply};
+ghost use Rattle.personality.specs.Reason.{rowless};
 ghost use Rattle.model.specs.FrameStep as Walk;
 ghost use Rattle.model.specs.Search as Search;
 ghost use Rattle.model.specs.Cleanup as Cleanup;
 ghost use Rattle.model.specs.Unwinding as Spec;
 ghost use Rattle.model.specs.Call.{Promised};
 ghost use Rattle.unwind.specs.Answers.{frameWith, frameAt, staying, stepped, searched, raisedBy, unmoved, resumedBy, cleaned, callNumber, unwoundBy};
-ghost use Rattle.unwind.specs.Turns.{fileTold, callerByRun, passed, recordOf, located, meeting, seen, Follows, SearchTurn, cleanRow, cleanMet};
+ghost use Rattle.unwind.specs.Turns.{fileTold, callerByRun, advanced, passed, recordOf, located, metRow, rowPast, meeting, seen, Follows, SearchTurn, cleanRow, cleanMet};
 use arch::COLUMNS;
 use arch::DATA_REG0;
 use arch::DATA_REG1;
@@ -45,10 +49,14 @@ use mem::opening;
 use mem::wrapping;
 use model::Unwinding;
 use personality::row_of;
+use personality::rowless;
 use program::run_program;
+use program::run_through;
 use rows::ACTION_CATCH;
 use rows::ACTION_CLEANUP;
 use rows::Row;
+use rows::handler2::handler2_at;
+use state::State;
 
 // The most frames that a walk gives.
 pub const MAX_FRAMES: usize = 1024;
@@ -157,6 +165,39 @@ fn offset_from(start: usize, at: usize) -> usize
     at - start
 }
 
+// The caller's registers from a state.
+fn caller_by_state<'a>(
+    section: &'a [u8],
+    section_base: usize,
+    stack: &'a [u8],
+    stack_base: usize,
+    arch: u8,
+    state: State,
+    file: &mut [usize; COLUMNS],
+) -> Status
+    ensures { λ r. ⌜
+        fileTold r (now (file .exit)) ≡
+        apply (numbers arch)
+        (lent (now (section .entry)) «section_base» (now (stack .entry)) «stack_base» .regions)
+        (layout state) (now (file .entry))
+        ⌝ }
+{
+    let r = *file;
+    let next = apply_state(
+        section,
+        section_base,
+        stack,
+        stack_base,
+        arch,
+        state,
+        Regs { r },
+    );
+    let regs = next.regs;
+    let caller = regs.r;
+    *file = caller;
+    next.status
+}
+
 // The caller's registers of version 2: by run, then apply.
 fn caller_by_run<'a>(
     section: &'a [u8],
@@ -188,22 +229,15 @@ fn caller_by_run<'a>(
     );
     let status = ran.status;
     match status {
-        program::Status::Done => {
-            let r = *file;
-            let next = apply_state(
-                section,
-                section_base,
-                stack,
-                stack_base,
-                arch,
-                ran.state,
-                Regs { r },
-            );
-            let regs = next.regs;
-            let caller = regs.r;
-            *file = caller;
-            next.status
-        }
+        program::Status::Done => caller_by_state(
+            section,
+            section_base,
+            stack,
+            stack_base,
+            arch,
+            ran.state,
+            file,
+        ),
         program::Status::Refused(n) => Status::Refused(n),
     }
 }
@@ -265,6 +299,21 @@ fn not_advancing(number: usize, before: usize, after: usize) -> bool
     after == before
 }
 
+// The caller's registers came to this status, and sp from one to another: then 20.
+fn advancing(number: usize, before: usize, after: usize, status: Status) -> Status
+    ensures { λ r. ⌜ r ≡ advanced number before after status ⌝ }
+{
+    match status {
+        Status::Done => {
+            if not_advancing(number, before, after) {
+                return Status::Refused(STACK_NOT_ADVANCING);
+            }
+            Status::Done
+        }
+        Status::Refused(n) => Status::Refused(n),
+    }
+}
+
 // Past a frame with its record: the caller's registers, then 20.
 fn past<'a>(
     section: &'a [u8],
@@ -288,7 +337,7 @@ fn past<'a>(
 {
     let k = sp_column(arch);
     let before = file[k];
-    match caller_into(
+    let status = caller_into(
         section,
         section_base,
         stack,
@@ -298,15 +347,8 @@ fn past<'a>(
         record,
         at,
         file,
-    ) {
-        Status::Done => {
-            if not_advancing(number, before, file[k]) {
-                return Status::Refused(STACK_NOT_ADVANCING);
-            }
-            Status::Done
-        }
-        Status::Refused(n) => Status::Refused(n),
-    }
+    );
+    advancing(number, before, file[k], status)
 }
 
 // A frame's record. In order: pc 0 ends; 1,024 frames given, 29; then lookup in the section.
@@ -336,6 +378,122 @@ fn locate(
     }
 }
 
+// A row that was found, with the start of its record.
+fn met_row(start: usize, row: Row) -> Met
+    ensures { λ r. ⌜ r ≡ metRow start row ⌝ }
+{
+    match row {
+        Row::None => Met::Rowless,
+        Row::Is(pad, action) => Met::Row(start, pad, action),
+        Row::Refused(n) => Met::Refused(n),
+    }
+}
+
+// The row of version 2, where the run of the program to its END came to this status and after-address.
+fn row_past<'a>(
+    section: &'a [u8],
+    section_base: usize,
+    stack: &'a [u8],
+    stack_base: usize,
+    end: program::Status,
+    after: usize,
+    limit: usize,
+    ret: u32,
+) -> Row
+    ensures { λ r. ⌜
+        found r ≡
+        rowPast
+        (lent (now (section .entry)) «section_base» (now (stack .entry)) «stack_base» .regions)
+        end after limit ret
+        ⌝ }
+{
+    match end {
+        program::Status::Done => handler2_at(
+            section,
+            section_base,
+            stack,
+            stack_base,
+            after,
+            limit,
+            ret,
+        ),
+        program::Status::Refused(n) => Row::Refused(n),
+    }
+}
+
+// A frame of version 2 that may have a row: one pass through its program serves its step and its row.
+fn meet_through<'a>(
+    section: &'a [u8],
+    section_base: usize,
+    stack: &'a [u8],
+    stack_base: usize,
+    arch: u8,
+    number: usize,
+    interrupted: bool,
+    record: Record,
+    pc: usize,
+    file: &mut [usize; COLUMNS],
+) -> Met
+    requires { ⌜
+        (pc ≡ File.pc (now file)) ×
+        (Answer (some «record») ≡ recordOf (now section) «section_base» arch number interrupted pc) ×
+        (rowless interrupted «record» pc ≡ false) × («record» .version ≡ 2)
+        ⌝ }
+    ensures { λ r. ⌜
+        meeting (frameWith number interrupted (now (file .entry))) (now (file .exit)) r ≡
+        seen arch
+        (lent (now (section .entry)) «section_base» (now (stack .entry)) «stack_base» .regions)
+        (frameWith number interrupted (now (file .entry)))
+        ⌝ }
+{
+    let off = offset_from(record.start, looked_up(interrupted, pc));
+    let ran = run_through(
+        section,
+        section_base,
+        stack,
+        stack_base,
+        arch,
+        record.program,
+        record.limit,
+        off,
+    );
+    let status = ran.status;
+    match status {
+        program::Status::Done => {
+            let k = sp_column(arch);
+            let before = file[k];
+            let called = caller_by_state(
+                section,
+                section_base,
+                stack,
+                stack_base,
+                arch,
+                ran.state,
+                file,
+            );
+            match advancing(number, before, file[k], called) {
+                Status::Done => {
+                    let ret = ((pc - record.start) % 0x1_0000_0000) as u32;
+                    let end = ran.end;
+                    let row = row_past(
+                        section,
+                        section_base,
+                        stack,
+                        stack_base,
+                        end,
+                        ran.after,
+                        record.limit,
+                        ret,
+                    );
+                    met_row(record.start, row)
+                }
+                Status::Refused(n) => Met::Refused(n),
+            }
+        }
+        program::Status::Refused(n) => Met::Refused(n),
+    }
+}
+
 // A frame with its record: its step, then its row.
 fn meet_at<'a>(
     section: &'a [u8],
@@ -360,6 +518,22 @@ fn meet_at<'a>(
         (frameWith number interrupted (now (file .entry)))
         ⌝ }
 {
+    if record.version == VERSION2 {
+        if !rowless(interrupted, record, pc) {
+            return meet_through(
+                section,
+                section_base,
+                stack,
+                stack_base,
+                arch,
+                number,
+                interrupted,
+                record,
+                pc,
+                file,
+            );
+        }
+    }
     let at = looked_up(interrupted, pc);
     match past(
         section,
@@ -373,20 +547,19 @@ fn meet_at<'a>(
         at,
         file,
     ) {
-        Status::Done => match row_of(
-            section,
-            section_base,
-            stack,
-            stack_base,
-            arch,
-            interrupted,
-            record,
-            pc,
-        ) {
-            Row::None => Met::Rowless,
-            Row::Is(pad, action) => Met::Row(record.start, pad, action),
-            Row::Refused(n) => Met::Refused(n),
-        },
+        Status::Done => {
+            let row = row_of(
+                section,
+                section_base,
+                stack,
+                stack_base,
+                arch,
+                interrupted,
+                record,
+                pc,
+            );
+            met_row(record.start, row)
+        }
         Status::Refused(n) => Met::Refused(n),
     }
 }

@@ -1,7 +1,7 @@
 -- `unwind::caller_by_run` meets its contract. Assumes nothing.
 use mathlib.Core.Path.{_∙_}
 use Rattle.personality.proofs.Ran.{ran-done, ran-refused}
-use Rattle.unwind.proofs.Walks.{next-told, by-run, by-run-refused}
+use Rattle.unwind.proofs.Walks.{by-run, by-run-refused}
 use borrow.Author.Needs.{needs}
 use Rattle.unwind.proofs.caller_by_run.Statement.{statement}
 use Rattle.unwind.proofs.caller_by_run.Tie as tie
@@ -12,16 +12,16 @@ run-program-requires c κs = search needs
 enum-told : tie.Need-enum-told
 enum-told c = search needs
 
-apply-state-requires : tie.Need-apply-state-requires
-apply-state-requires c κs = search needs
+caller-by-state-requires : tie.Need-caller-by-state-requires
+caller-by-state-requires c κs = search needs
 
 enum-known-status : tie.Need-enum-known-status
 enum-known-status c = search needs
 
 returns : tie.Need-returns
 returns c =
-    next-told _ _ _ (c .before .before .apply-state .ensures)
-    ∙ by-run _ _ _ _ _ _ _ (ran-done _ _ _ (c .before .before .before .before .before .before .run-program .ensures) (c .before .before .before .before .enum-told .given .1))
+    c .caller-by-state .ensures
+    ∙ by-run _ _ _ _ _ _ _ (ran-done _ _ _ (c .before .before .before .before .run-program .ensures) (c .before .before .enum-told .given .1))
 
 returns-2 : tie.Need-returns-2
 returns-2 c =
@@ -33,7 +33,7 @@ caller-by-run-spec =
     (tie.spec
     run-program-requires
     enum-told
-    apply-state-requires
+    caller-by-state-requires
     enum-known-status
     returns
     returns-2)

@@ -1,6 +1,7 @@
 -- `unwind::meet_at` meets its contract. Assumes nothing.
-use mathlib.Core.Path.{_∙_, ap}
+use mathlib.Core.Path.{sym, _∙_, ap}
 use Prim.Native.Nat.{ℕ}
+use borrow.Author.Tests.{not-true}
 use Rattle.model.specs.FrameStep.{lookedUp}
 use Rattle.unwind.proofs.Walks.{record-bounds}
 use Rattle.unwind.proofs.Meeting.{passed-told, meets-refused, meets-row}
@@ -8,14 +9,23 @@ use borrow.Author.Needs.{needs}
 use Rattle.unwind.proofs.meet_at.Statement.{statement}
 use Rattle.unwind.proofs.meet_at.Tie as tie
 
+rowless-requires : tie.Need-rowless-requires
+rowless-requires c κs = search needs
+
+meet-through-requires : tie.Need-meet-through-requires
+meet-through-requires c κs =
+    (c .before .before .before .before .before .before .before .pre .0, c .before .before .before .before .before .before .before .pre .1, sym (c .before .before .rowless .ensures) ∙ not-true _ (c .before .if2 .taken), c .before .before .before .if1 .taken)
+
+returns : tie.Need-returns
+returns c = search needs
+
 looked-up-requires : tie.Need-looked-up-requires
 looked-up-requires c κs =
-    record-bounds _ _ _ _ _ _ _ (c .before .before .pre .1) .0
+    record-bounds _ _ _ _ _ _ _ (c .before .before .before .before .pre .1) .0
 
 past-requires : tie.Need-past-requires
 past-requires c κs =
-    let x = c .before .before .before .before .args in
-    c .before .looked-up .ensures ∙ ap (λ (p : ℕ). lookedUp (x .interrupted) p) (c .before .before .before .before .pre .0)
+    c .before .looked-up .ensures ∙ ap (λ (p : ℕ). lookedUp (c .before .before .before .before .before .before .args .interrupted) p) (c .before .before .before .before .before .before .pre .0)
 
 enum-told : tie.Need-enum-told
 enum-told c = search needs
@@ -23,50 +33,34 @@ enum-told c = search needs
 row-of-requires : tie.Need-row-of-requires
 row-of-requires c κs = search needs
 
-enum-told-2 : tie.Need-enum-told-2
-enum-told-2 c = search needs
-
-enum-known-pad : tie.Need-enum-known-pad
-enum-known-pad c = search needs
+met-row-requires : tie.Need-met-row-requires
+met-row-requires c κs = search needs
 
 enum-known-n : tie.Need-enum-known-n
 enum-known-n c = search needs
 
-enum-known-n-2 : tie.Need-enum-known-n-2
-enum-known-n-2 c = search needs
-
-returns : tie.Need-returns
-returns c =
-    meets-row _ _ _ _ _ (c .before .before .before .before .before .before .before .before .before .before .pre .0) (c .before .before .before .before .before .before .before .before .before .before .pre .1) _
-    (passed-told _ _ _ _ _ _ (c .before .before .before .before .before .past .ensures) (c .before .before .before .enum-told .given .1)) _ _ (c .before .before .row-of .ensures) (c .enum-told2 .given .1)
-
 returns-2 : tie.Need-returns-2
 returns-2 c =
     meets-row _ _ _ _ _ (c .before .before .before .before .before .before .before .before .before .before .before .pre .0) (c .before .before .before .before .before .before .before .before .before .before .before .pre .1) _
-    (passed-told _ _ _ _ _ _ (c .before .before .before .before .before .before .past .ensures) (c .before .before .before .before .enum-told .given .1)) _ _ (c .before .before .before .row-of .ensures) (c .before .pad .given .1)
+    (passed-told _ _ _ _ _ _ (c .before .before .before .before .past .ensures) (c .before .before .enum-told .given .1)) (c .before .row-of .result) (c .before .row-of .ensures) _ (c .met-row .ensures)
 
 returns-3 : tie.Need-returns-3
 returns-3 c =
-    meets-row _ _ _ _ _ (c .before .before .before .before .before .before .before .before .before .before .before .pre .0) (c .before .before .before .before .before .before .before .before .before .before .before .pre .1) _
-    (passed-told _ _ _ _ _ _ (c .before .before .before .before .before .before .past .ensures) (c .before .before .before .before .enum-told .given .1)) _ _ (c .before .before .before .row-of .ensures) (c .before .n .given .1)
-
-returns-4 : tie.Need-returns-4
-returns-4 c =
-    meets-refused _ _ _ _ _ (c .before .before .before .before .before .before .before .before .pre .0) (c .before .before .before .before .before .before .before .before .pre .1) _ (passed-told _ _ _ _ _ _ (c .before .before .before .past .ensures) (c .before .n2 .given .1))
+    meets-refused _ _ _ _ _ (c .before .before .before .before .before .before .before .before .before .before .pre .0) (c .before .before .before .before .before .before .before .before .before .before .pre .1) _
+    (passed-told _ _ _ _ _ _ (c .before .before .before .past .ensures) (c .before .n .given .1))
 
 pub meet-at-spec : {M : Type 1} → statement M
 meet-at-spec =
     tie.close
     (tie.spec
+    rowless-requires
+    meet-through-requires
+    returns
     looked-up-requires
     past-requires
     enum-told
     row-of-requires
-    enum-told-2
-    enum-known-pad
+    met-row-requires
     enum-known-n
-    enum-known-n-2
-    returns
     returns-2
-    returns-3
-    returns-4)
+    returns-3)

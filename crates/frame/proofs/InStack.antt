@@ -1,15 +1,15 @@
 -- Laws of `Near`, `slotIn` and `deepest`. Assumes nothing.
 use mathlib.Core.Path.{_≡_, refl, sym, _∙_, ap, subst}
-use mathlib.Core.Bool.{Bool, true, false, not, _&&_, and-false}
+use mathlib.Core.Bool.{Bool, true, false, not, and-false}
 use mathlib.Core.List.{List}
 use mathlib.Core.Logic.{⊎-elim, _⊎_, inl, inr}
-use Prim.Native.Nat.{ℕ, _+_, _-_, _*_, _^_, _%_, _≤_, _<_}
+use Prim.Native.Nat.{ℕ, _+_, _-_, _*_, _^_, _≤_, _<_}
 use native.Mathlib.Omega.{arith}
-use lib.Dec.{eqb, leb, ltb, lit<}
+use lib.Dec.{ltb}
 use lib.ListN.{length, getD, take, drop, length-take, length-drop}
-use borrow.Author.Tests.{le-leb, lt-leb, lt-ltb, le-ltb, eq-eqb, eqb-true, ltb-true, ltb-false}
+use borrow.Author.Tests.{lt-leb, lt-ltb, le-ltb, eq-eqb, ltb-true, ltb-false}
 use Rattle.failure.specs.Outcome.{Outcome, Refused, Answer}
-use Rattle.failure.specs.Failure.{OutsideMemory, BadEkoRecord, EkoAsyncFrame}
+use Rattle.failure.specs.Failure.{OutsideMemory}
 use Rattle.mem.specs.Memory.{lent}
 use Rattle.arch.specs.Arch.{Arch}
 use Rattle.mem.specs.Place.{holds, bytesAt}
@@ -20,11 +20,7 @@ use Rattle.mem.specs.declared.load.Word.the-variants.{Value, Outside}
 use Rattle.mem.proofs.Place.{holds-when}
 use Rattle.mem.proofs.Tests.{lt-or-le}
 use Rattle.frame.specs.Apply.{loadSlot}
-use Rattle.frame.specs.Frame.{kind, onFp, mask, param, named, firstSlot, reversed, slotOf}
-use Rattle.frame.specs.Step.{frameCfa}
-use Rattle.frame.specs.ReadAs.{passes}
-use Rattle.frame.proofs.Named.{named-zero}
-use Rattle.frame.proofs.Passes.{Passing, leaf-word, fp-word, sp-word, passing, Turned, turned}
+use Rattle.frame.specs.Frame.{firstSlot, reversed, slotOf}
 use Rattle.frame.specs.Near.{Near, slotIn, Usable, Within, deepest}
 
 -- a test that fails tells nothing

@@ -2,7 +2,7 @@
 use mathlib.Core.Path.{_≡_, refl, sym, _∙_, ap}
 use mathlib.Core.Bool.{Bool, true, false}
 use mathlib.Core.List.{List, [], _∷_}
-use Prim.Native.Nat.{ℕ, zero, suc, _+_, _≤_, _<_}
+use Prim.Native.Nat.{ℕ, zero, suc, _+_, _≤_}
 use native.Mathlib.Omega.{arith}
 use native.Mathlib.Numerals.{add-one}
 use lib.Dec.{ltb}
@@ -10,7 +10,7 @@ use lib.ListN.{length, getD, drop}
 use lib.Seq.{drop-cons}
 use borrow.Author.Tests.{ltb-true, ltb-false}
 use Rattle.state.specs.declared.State.{State}
-use Rattle.frame.specs.Layout.{Pair, Layout, firstPairs, pairsAt, pairCount, layout, lentLayout}
+use Rattle.frame.specs.Layout.{Pair, firstPairs, pairsAt, pairCount, layout, lentLayout}
 
 -- pairs by their places, within both lists
 by-place :

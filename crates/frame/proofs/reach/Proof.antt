@@ -1,7 +1,6 @@
 -- `frame::reach` meets its contract: each turn looks at one pair. Assumes nothing.
-use mathlib.Core.Path.{_≡_}
 use mathlib.Core.Logic.{⊎-elim}
-use Prim.Native.Nat.{ℕ, _-_, _≤_, _<_}
+use Prim.Native.Nat.{_-_, _<_}
 use native.Mathlib.Omega.{arith}
 use lib.Dec.{lit<}
 use denote.Ref.{now}

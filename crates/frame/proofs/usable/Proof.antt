@@ -1,9 +1,7 @@
 -- `frame::usable` meets its contract. Assumes nothing.
-use mathlib.Core.Path.{_≡_, sym, _∙_, ap}
-use Prim.Native.Nat.{ℕ}
+use mathlib.Core.Path.{sym, _∙_, ap}
 use native.Mathlib.Omega.{arith}
 use borrow.Author.Needs.{needs}
-use Rattle.failure.specs.Outcome.{Outcome, Refused, Answer}
 use Rattle.arch.specs.Answers.{columned}
 use Rattle.frame.proofs.InStack.{no, no-refusal}
 use Rattle.frame.proofs.usable.Statement.{statement}

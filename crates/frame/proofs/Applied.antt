@@ -20,12 +20,6 @@ module _ (a : Arch) (m : Memory) (at : ℕ) (pairs : List Pair) (file : List ℕ
   pairs-refused n e = rw e
 
   -- all pairs are restored: the return register says the rest
-  pub ra-refused :
-      (next : List ℕ) (n : ℕ) → restorePairs a m at pairs file ≡ Answer next → Refused n ≡ get a next (a .ra) →
-      Refused n ≡ applyAt a m at pairs file
-  unfolding applyAt
-  ra-refused next n e f = rw (e, sym f)
-
   pub ra-answered :
       (next : List ℕ) (ra : ℕ) → restorePairs a m at pairs file ≡ Answer next → Answer ra ≡ get a next (a .ra) →
       Answer (returned a at ra next) ≡ applyAt a m at pairs file

@@ -1,15 +1,15 @@
 -- Laws of `Near`, `slotIn` and `deepest`. Assumes nothing.
-use mathlib.Core.Path.{_≡_, refl, sym, _∙_, ap}
-use mathlib.Core.Bool.{Bool, true, false, not, _&&_, and-false}
+use mathlib.Core.Path.{_≡_, refl, sym, _∙_, ap, subst}
+use mathlib.Core.Bool.{Bool, true, false, not, and-false}
 use mathlib.Core.List.{List}
 use mathlib.Core.Logic.{⊎-elim, _⊎_, inl, inr}
-use Prim.Native.Nat.{ℕ, _+_, _-_, _*_, _^_, _%_, _≤_, _<_}
+use Prim.Native.Nat.{ℕ, _+_, _-_, _*_, _^_, _≤_, _<_}
 use native.Mathlib.Omega.{arith}
-use lib.Dec.{eqb, leb, ltb, lit<}
-use lib.ListN.{length, take, drop, length-take, length-drop}
-use borrow.Author.Tests.{le-leb, lt-leb, lt-ltb, le-ltb, eq-eqb, eqb-true, ltb-true, ltb-false}
+use lib.Dec.{ltb}
+use lib.ListN.{length, getD, take, drop, length-take, length-drop}
+use borrow.Author.Tests.{lt-leb, lt-ltb, le-ltb, eq-eqb, ltb-true, ltb-false}
 use Rattle.failure.specs.Outcome.{Outcome, Refused, Answer}
-use Rattle.failure.specs.Failure.{OutsideMemory, BadEkoRecord, EkoAsyncFrame}
+use Rattle.failure.specs.Failure.{OutsideMemory}
 use Rattle.mem.specs.Memory.{lent}
 use Rattle.arch.specs.Arch.{Arch}
 use Rattle.mem.specs.Place.{holds, bytesAt}
@@ -20,16 +20,19 @@ use Rattle.mem.specs.declared.load.Word.the-variants.{Value, Outside}
 use Rattle.mem.proofs.Place.{holds-when}
 use Rattle.mem.proofs.Tests.{lt-or-le}
 use Rattle.frame.specs.Apply.{loadSlot}
-use Rattle.frame.specs.Frame.{kind, onFp, mask, param, named, firstSlot, reversed, slotOf}
-use Rattle.frame.specs.Step.{frameCfa}
-use Rattle.frame.specs.ReadAs.{passes}
-use Rattle.frame.proofs.Named.{named-zero}
-use Rattle.frame.proofs.Passes.{Passing, leaf-word, fp-word, sp-word, passing, Turned, turned}
-use Rattle.frame.specs.Near.{Near, slotIn, deepest}
+use Rattle.frame.specs.Frame.{firstSlot, reversed, slotOf}
+use Rattle.frame.specs.Near.{Near, slotIn, Usable, Within, deepest}
 
 -- a test that fails tells nothing
 pub no : (A : Type 0) → false ≡ true → A
 no A e = let z : _≡_ {A = ℕ} 0 1 = cc in absurd (omega arith)
+
+-- an answer is no refusal
+pub no-refusal : (o : Outcome ℕ) (k : ℕ) → o ≡ Answer k → (x : ℕ) → o ≡ Refused x → ⊥
+no-refusal o k e x p =
+    let q : _≡_ {A = Outcome ℕ} (Answer k) (Refused x) = sym e ∙ p in
+    let z : _≡_ {A = ℕ} 0 1 = cc in
+    omega arith
 
 -- a read of eight bytes of the stack
 pub part-read :
@@ -127,3 +130,16 @@ slot-bounds frame n k h some = go (reversed frame) refl
         let first = some (omega arith) in
         let deep = deepest-bounds frame n in
         rw e (omega arith, omega (arith, deep .1))
+
+-- one more pair is within a depth that is no smaller
+pub within-turn :
+    (a : Arch) (regs slots : List ℕ) (depth i d : ℕ) → Within a regs slots depth i → (slot : ℕ) → slot ≡ getD slots i 0 →
+    Usable a (getD regs i 0) slot → depth ≤ d → slot ≤ d → Within a regs slots d (i + 1)
+within-turn a regs slots depth i d w slot is u h l =
+    λ j p.
+    ⊎-elim (λ (q : j < i). let old = w j q in (old .0, omega (arith, old .1)))
+    (λ (q : i ≤ j).
+    let e : i ≡ j = omega arith in
+    subst (λ (k : ℕ). Usable a (getD regs k 0) (getD slots k 0) × (getD slots k 0 ≤ d)) e
+    (subst (λ (s : ℕ). Usable a (getD regs i 0) s × (s ≤ d)) is (u, l)))
+    (lt-or-le j i)

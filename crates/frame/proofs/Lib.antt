@@ -17,3 +17,4 @@ pub mod InStack
 pub mod Columns
 pub mod Saves
 pub mod Partly
+pub mod LentLayout

@@ -29,17 +29,12 @@ pub address-slot :
 unfolding returnAddress
 address-slot a m at slot file o z e = rw (ne-eqb slot 0 z) e
 
--- the return register is set, or not known
+-- the return register is set
 pub return-set :
     (a : Arch) (at ra : ℕ) (file : List ℕ) (k : ℕ) → Answer k ≡ columnOf a (a .ra) →
     Answer (returned a at ra (ListN.set file k ra)) ≡ setReturn a at ra file
 unfolding setReturn set
 return-set a at ra file k e = rw (sym e)
-
-pub return-unknown :
-    (a : Arch) (at ra : ℕ) (file : List ℕ) (n : ℕ) → Refused n ≡ columnOf a (a .ra) → Refused n ≡ setReturn a at ra file
-unfolding setReturn set
-return-unknown a at ra file n e = rw (sym e)
 
 module _ (a : Arch) (m : Memory) (frame at ra : ℕ) (file : List ℕ) (k : ℕ) (is : k ≡ kind frame) where
   -- fp is set, or refused, where the frame saves it

@@ -5,10 +5,12 @@ use mathlib.Core.Path.{_≡_}
 use mathlib.Core.Bool.{false}
 use Prim.Native.Nat.{ℕ, _+_, _-_, _*_, _≤_, _<_}
 use lib.Dec.{ltb}
-use lib.ListN.{length, take, drop}
+use lib.ListN.{length, getD, take, drop}
 use Rattle.failure.specs.Choice.{if_then_else_}
+use Rattle.failure.specs.Outcome.{Refused}
 use Rattle.mem.specs.Word.{littleEndian}
 use Rattle.arch.specs.Arch.{Arch}
+use Rattle.arch.specs.File.{columnOf}
 use Rattle.frame.specs.Frame.{mask, named, firstSlot}
 use Rattle.frame.specs.Step.{pastTable}
 
@@ -29,6 +31,16 @@ pub record Near (section : List ℕ) (sectionBase : ℕ) (stack : List ℕ) (sta
 -- the number in a slot, where the CFA is the stack's offset top
 abbrev pub slotIn : List ℕ → ℕ → ℕ → ℕ
 slotIn stack top slot = littleEndian (take 8 (drop (top - 8 * slot) stack))
+
+-- a pair's register is known, and its slot is not 0
+pub record Usable (a : Arch) (reg slot : ℕ) : Type 0 where
+  pub known : (x : ℕ) → columnOf a reg ≡ Refused x → ⊥
+  pub some : 0 < slot
+
+-- the first n pairs are usable, and their slots are at most depth
+abbrev pub Within : Arch → List ℕ → List ℕ → ℕ → ℕ → Type 0
+Within a regs slots depth n =
+    (j : ℕ) → j < n → Usable a (getD regs j 0) (getD slots j 0) × (getD slots j 0 ≤ depth)
 
 -- no slot that a word with n saved registers reads is above this one
 unfoldable pub deepest : ℕ → ℕ → ℕ

@@ -3,6 +3,7 @@
 // lent, the architecture and the count: there any architecture but 1 stands for 2, and a state has no pair past its arrays.
 ghost use mathlib.Core.Path.{_≡_};
 ghost use mathlib.Core.List.{List};
+ghost use mathlib.Core.Logic.{_⊎_};
 ghost use mathlib.Core.Bool.{true, not, _&&_};
 ghost use Prim.Native.Nat.{ℕ, _-_, _*_, _≤_, _<_};
 ghost use lib.Dec.{eqb, ltb};
@@ -13,13 +14,13 @@ ghost use Rattle.mem.specs.Memory.{lent};
 ghost use Rattle.arch.specs.Arch as Arch;
 ghost use Rattle.arch.specs.File as File;
 ghost use Rattle.arch.specs.Answers.{valued, next, InPlace};
-ghost use Rattle.frame.specs.Layout.{layout, base};
+ghost use Rattle.frame.specs.Layout.{pairCount, pairsAt, layout, lentLayout, base};
 ghost use Rattle.frame.specs.Apply as Apply;
 ghost use Rattle.frame.specs.Frame as Frame;
 ghost use Rattle.frame.specs.Step as Step;
 ghost use Rattle.frame.specs.Public as Public;
 ghost use Rattle.frame.specs.Answers.{Restores, Partly};
-ghost use Rattle.frame.specs.Near.{InStack, OffSection, Near, slotIn, deepest, Saves};
+ghost use Rattle.frame.specs.Near.{InStack, OffSection, Near, slotIn, Usable, Within, deepest, Saves};
 use arch::AARCH64;
 use arch::COLUMNS;
 use arch::Column;
@@ -64,16 +65,6 @@ fn refused(n: u32, regs: Regs) -> Next
     }
 }
 
-// The next file.
-fn done(regs: Regs) -> Next
-    ensures { λ r. ⌜ r ≡ next regs (Outcome.Answer (regs .r)) ⌝ }
-{
-    Next {
-        status: Status::Done,
-        regs,
-    }
-}
-
 // fp is 0 or no multiple of 8.
 fn bad_fp(fp: usize) -> bool
     ensures { λ r. ⌜ r ≡ Apply.badFp fp ⌝ }
@@ -106,6 +97,68 @@ fn load_slot<'a>(
     }
 }
 
+// Slots 1 to depth lie in the stack.
+fn in_stack(stack: &[u8], stack_base: usize, cfa: usize, depth: usize) -> bool
+    requires { ⌜ depth < 65536 ⌝ }
+    ensures { λ r. ⌜ (r ≡ true → InStack (now (stack .entry)) «stack_base» cfa depth) ⌝ }
+{
+    if cfa < stack_base {
+        return false;
+    }
+    let top = cfa - stack_base;
+    if stack.len() < top {
+        return false;
+    }
+    8 * depth <= top
+}
+
+// No byte of slots 1 to depth lies in the section.
+fn off_section(section: &[u8], section_base: usize, cfa: usize, depth: usize) -> bool
+    requires { ⌜ (depth < 65536) × (8 * depth ≤ cfa) ⌝ }
+    ensures { λ r. ⌜ (r ≡ true → OffSection (now (section .entry)) «section_base» cfa depth) ⌝ }
+{
+    if cfa <= section_base {
+        return true;
+    }
+    let low = cfa - 8 * depth;
+    if low < section_base {
+        return false;
+    }
+    section.len() <= low - section_base
+}
+
+// What stands in a slot of the stack.
+fn slot_in(stack: &[u8], top: usize, slot: usize) -> usize
+    requires { ⌜ (0 < slot) × (8 * slot ≤ top) × (top ≤ length (now stack)) ⌝ }
+    ensures { λ r. ⌜ r ≡ slotIn (now (stack .entry)) top slot ⌝ }
+{
+    let k = top - 8 * slot;
+    let e = k + 8;
+    match load::u64_in(&stack[k..e]) {
+        Word::Value(v) => v,
+        Word::Outside => 0,
+    }
+}
+
+// The column of the return register.
+fn ra_column(arch: u8) -> usize
+    ensures { λ r. ⌜ (Outcome.Answer r ≡ File.columnOf (Arch.numbers arch) (Arch.numbers arch .ra)) × (r < File.columns) ⌝ }
+{
+    if arch == AARCH64 {
+        return 30;
+    }
+    PC_COLUMN
+}
+
+// sp is the CFA, pc the stripped return address, in place.
+fn return_to(arch: u8, cfa: usize, ra: usize, file: &mut [usize; COLUMNS])
+    ensures { λ _. ⌜ now (file .exit) ≡ Apply.returned (Arch.numbers arch) cfa ra (now (file .entry)) ⌝ }
+{
+    let k = arch::sp_column(arch);
+    file[k] = cfa;
+    file[PC_COLUMN] = arch::stripped(arch, ra);
+}
+
 // A pair: its slot is read, then its register's column found.
 fn saved_at<'a>(
     section: &'a [u8],
@@ -132,33 +185,126 @@ fn saved_at<'a>(
     }
 }
 
-// Each of a state's pairs in order: read, then set.
-fn restore_pairs<'a>(
+// How many pairs a state has: its arrays have no more than 32.
+fn pair_count(count: usize) -> usize
+    ensures { λ r. ⌜ (r ≡ pairCount count) × (r ≤ 32) ⌝ }
+{
+    if MAX_SAVED < count {
+        return MAX_SAVED;
+    }
+    count
+}
+
+// A slot as an address-sized number.
+fn wide(slot: u16) -> usize
+    ensures { λ r. ⌜ (r ≡ slot) × (r < 65536) ⌝ }
+{
+    slot as usize
+}
+
+// A pair whose register is known and whose slot is not 0.
+fn usable(arch: u8, reg: u16, slot: usize) -> bool
+    ensures { λ r. ⌜ (r ≡ true → Usable (Arch.numbers arch) reg slot) ⌝ }
+{
+    if slot == 0 {
+        return false;
+    }
+    match arch::column_of(arch, reg) {
+        Column::At(k) => true,
+        Column::Unknown => false,
+    }
+}
+
+// The larger of two numbers.
+fn larger(a: usize, b: usize) -> usize
+    ensures { λ r. ⌜ (a ≤ r) × (b ≤ r) × ((r ≡ a) ⊎ (r ≡ b)) ⌝ }
+{
+    if a < b {
+        return b;
+    }
+    a
+}
+
+// The largest slot of n pairs, at least 1; 0 if one of them is not usable.
+fn reach<'b>(arch: u8, n: usize, regs: &'b [u16; 32], slots: &'b [u16; 32]) -> usize
+    requires { ⌜ n ≤ 32 ⌝ }
+    ensures { λ r. ⌜
+        (r < 65536) × (0 < r → Within (Arch.numbers arch) (now (regs .entry)) (now (slots .entry)) r n)
+        ⌝ }
+{
+    let mut depth = 1;
+    let mut i = 0;
+    while i < n {
+        let slot = wide(slots[i]);
+        if !usable(arch, regs[i], slot) {
+            return 0;
+        }
+        depth = larger(depth, slot);
+        i += 1;
+    }
+    depth
+}
+
+// Each of n pairs in order, read from the stack and stored in place.
+fn pairs_near<'a, 'b>(
     section: &'a [u8],
     section_base: usize,
     stack: &'a [u8],
     stack_base: usize,
     arch: u8,
     cfa: usize,
-    state: State,
-    regs: Regs,
-) -> Next
-    ensures { λ r. ⌜
-        r ≡ next regs
-        (Apply.restorePairs (Arch.numbers arch)
+    depth: usize,
+    n: usize,
+    regs: &'b [u16; 32],
+    slots: &'b [u16; 32],
+    file: &mut [usize; COLUMNS],
+)
+    requires { ⌜
+        (n ≤ 32) × Near (now section) «section_base» (now stack) «stack_base» cfa depth ×
+        Within (Arch.numbers arch) (now regs) (now slots) depth n
+        ⌝ }
+    ensures { λ _. ⌜
+        Apply.restorePairs (Arch.numbers arch)
         (lent (now (section .entry)) «section_base» (now (stack .entry)) «stack_base» .regions)
-        cfa (layout state .pairs) (regs .r))
+        cfa (pairsAt n 0 (now (regs .entry)) (now (slots .entry))) (now (file .entry))
+        ≡ Outcome.Answer (now (file .exit))
         ⌝ }
 {
-    let mut file = regs;
+    let top = cfa - stack_base;
     let mut i = 0;
-    while i < MAX_SAVED {
-        if state.count <= i {
-            return done(file);
+    while i < n {
+        match arch::column_of(arch, regs[i]) {
+            Column::At(k) => file[k] = slot_in(stack, top, wide(slots[i])),
+            Column::Unknown => return,
         }
-        let reg = state.regs[i];
-        let slot = state.slots[i];
         i += 1;
+    }
+}
+
+// Each of n pairs in order: read, then stored.
+fn restore_pairs<'a, 'b>(
+    section: &'a [u8],
+    section_base: usize,
+    stack: &'a [u8],
+    stack_base: usize,
+    arch: u8,
+    cfa: usize,
+    n: usize,
+    regs: &'b [u16; 32],
+    slots: &'b [u16; 32],
+    file: &mut [usize; COLUMNS],
+) -> Status
+    requires { ⌜ n ≤ 32 ⌝ }
+    ensures { λ r. ⌜
+        Partly
+        (Apply.restorePairs (Arch.numbers arch)
+        (lent (now (section .entry)) «section_base» (now (stack .entry)) «stack_base» .regions)
+        cfa (pairsAt n 0 (now (regs .entry)) (now (slots .entry))) (now (file .entry)))
+        r (now (file .exit))
+        ⌝ }
+{
+    let mut i = 0;
+    while i < n {
         match saved_at(
             section,
             section_base,
@@ -166,35 +312,157 @@ fn restore_pairs<'a>(
             stack_base,
             arch,
             cfa,
-            reg,
-            slot,
+            regs[i],
+            slots[i],
         ) {
-            Saved::At(k, v) => file.r[k] = v,
-            Saved::Refused(n) => return refused(n, regs),
+            Saved::At(k, v) => file[k] = v,
+            Saved::Refused(x) => return Status::Refused(x),
         }
+        i += 1;
     }
-    done(file)
+    Status::Done
 }
 
-// The base register's value.
-fn base_of(arch: u8, cfa_fp: bool, regs: Regs) -> usize
-    ensures { λ r. ⌜ r ≡ base (Arch.numbers arch) «cfa_fp» (regs .r) ⌝ }
+// Past the tests, anywhere: the caller's registers in a copy, which becomes the file if nothing is refused.
+fn apply_plain<'a, 'b>(
+    section: &'a [u8],
+    section_base: usize,
+    stack: &'a [u8],
+    stack_base: usize,
+    arch: u8,
+    cfa: usize,
+    n: usize,
+    regs: &'b [u16; 32],
+    slots: &'b [u16; 32],
+    file: &mut [usize; COLUMNS],
+) -> Status
+    requires { ⌜ n ≤ 32 ⌝ }
+    ensures { λ r. ⌜
+        InPlace (now (file .entry))
+        (Apply.applyAt (Arch.numbers arch)
+        (lent (now (section .entry)) «section_base» (now (stack .entry)) «stack_base» .regions)
+        cfa (pairsAt n 0 (now (regs .entry)) (now (slots .entry))) (now (file .entry)))
+        r (now (file .exit))
+        ⌝ }
+{
+    let mut copy = *file;
+    match restore_pairs(
+        section,
+        section_base,
+        stack,
+        stack_base,
+        arch,
+        cfa,
+        n,
+        regs,
+        slots,
+        &mut copy,
+    ) {
+        Status::Done => {
+            let k = ra_column(arch);
+            let ra = copy[k];
+            return_to(arch, cfa, ra, &mut copy);
+            *file = copy;
+            Status::Done
+        }
+        Status::Refused(n) => Status::Refused(n),
+    }
+}
+
+// Past the tests: the caller's registers in place.
+fn apply_at<'a, 'b>(
+    section: &'a [u8],
+    section_base: usize,
+    stack: &'a [u8],
+    stack_base: usize,
+    arch: u8,
+    cfa: usize,
+    n: usize,
+    regs: &'b [u16; 32],
+    slots: &'b [u16; 32],
+    file: &mut [usize; COLUMNS],
+) -> Status
+    requires { ⌜ n ≤ 32 ⌝ }
+    ensures { λ r. ⌜
+        InPlace (now (file .entry))
+        (Apply.applyAt (Arch.numbers arch)
+        (lent (now (section .entry)) «section_base» (now (stack .entry)) «stack_base» .regions)
+        cfa (pairsAt n 0 (now (regs .entry)) (now (slots .entry))) (now (file .entry)))
+        r (now (file .exit))
+        ⌝ }
+{
+    let depth = reach(arch, n, regs, slots);
+    if depth == 0 {
+        return apply_plain(
+            section,
+            section_base,
+            stack,
+            stack_base,
+            arch,
+            cfa,
+            n,
+            regs,
+            slots,
+            file,
+        );
+    }
+    if !in_stack(stack, stack_base, cfa, depth) {
+        return apply_plain(
+            section,
+            section_base,
+            stack,
+            stack_base,
+            arch,
+            cfa,
+            n,
+            regs,
+            slots,
+            file,
+        );
+    }
+    if !off_section(section, section_base, cfa, depth) {
+        return apply_plain(
+            section,
+            section_base,
+            stack,
+            stack_base,
+            arch,
+            cfa,
+            n,
+            regs,
+            slots,
+            file,
+        );
+    }
+    pairs_near(
+        section,
+        section_base,
+        stack,
+        stack_base,
+        arch,
+        cfa,
+        depth,
+        n,
+        regs,
+        slots,
+        file,
+    );
+    let k = ra_column(arch);
+    let ra = file[k];
+    return_to(arch, cfa, ra, file);
+    Status::Done
+}
+
+// The column of the base register.
+fn base_column(arch: u8, cfa_fp: bool) -> usize
+    ensures { λ r. ⌜
+        ((file : List ℕ) → getD file r 0 ≡ base (Arch.numbers arch) «cfa_fp» file) × (r < File.columns)
+        ⌝ }
 {
     if cfa_fp {
-        let k = arch::fp_column(arch);
-        return regs.r[k];
+        return arch::fp_column(arch);
     }
-    let k = arch::sp_column(arch);
-    regs.r[k]
-}
-
-// sp is the CFA, pc the stripped return address.
-fn returned(arch: u8, cfa: usize, ra: usize, mut regs: Regs) -> Regs
-    ensures { λ r. ⌜ r .r ≡ Apply.returned (Arch.numbers arch) cfa ra (regs .r) ⌝ }
-{
-    let k = arch::sp_column(arch);
-    regs.r[k] = cfa;
-    regs.set_pc(arch::stripped(arch, ra))
+    arch::sp_column(arch)
 }
 
 // fp as base, and bad.
@@ -207,54 +475,51 @@ fn bad_base(cfa_fp: bool, base: usize) -> bool
     false
 }
 
-// The return register's value.
-fn ra_register(arch: u8, regs: Regs) -> Value
-    ensures { λ r. ⌜ valued r ≡ File.get (Arch.numbers arch) (regs .r) (Arch.numbers arch .ra) ⌝ }
-{
-    let a = arch::numbers(arch);
-    match arch::column_of(arch, a.ra) {
-        Column::At(k) => Value::Is(regs.r[k]),
-        Column::Unknown => Value::Refused(UNKNOWN_REGISTER),
-    }
-}
-
-// Past the tests: each pair, then the return address from its register.
-fn apply_at<'a>(
+// The caller's registers from the base, the units and the pairs of a state, in place, for any architecture number and count; a
+// refusal leaves the file as it was.
+pub fn apply_into<'a, 'b>(
     section: &'a [u8],
     section_base: usize,
     stack: &'a [u8],
     stack_base: usize,
     arch: u8,
-    cfa: usize,
-    state: State,
-    regs: Regs,
-) -> Next
+    cfa_fp: bool,
+    cfa_units: u32,
+    count: usize,
+    regs: &'b [u16; 32],
+    slots: &'b [u16; 32],
+    file: &mut [usize; COLUMNS],
+) -> Status
     ensures { λ r. ⌜
-        r ≡ next regs
-        (Apply.applyAt (Arch.numbers arch)
+        InPlace (now (file .entry))
+        (Apply.apply (Arch.numbers arch)
         (lent (now (section .entry)) «section_base» (now (stack .entry)) «stack_base» .regions)
-        cfa (layout state .pairs) (regs .r))
+        (lentLayout «cfa_fp» «cfa_units» count (now (regs .entry)) (now (slots .entry))) (now (file .entry)))
+        r (now (file .exit))
         ⌝ }
 {
-    let restored = restore_pairs(
+    let k = base_column(arch, cfa_fp);
+    let base = file[k];
+    if bad_base(cfa_fp, base) {
+        return Status::Refused(MISALIGNED);
+    }
+    let cfa = wrapping::add(base, 8 * cfa_units as usize);
+    if cfa == 0 {
+        return Status::Refused(BAD_CFA_RULE);
+    }
+    let n = pair_count(count);
+    apply_at(
         section,
         section_base,
         stack,
         stack_base,
         arch,
         cfa,
-        state,
+        n,
         regs,
-    );
-    let status = restored.status;
-    let file = restored.regs;
-    match status {
-        Status::Done => match ra_register(arch, file) {
-            Value::Is(ra) => done(returned(arch, cfa, ra, file)),
-            Value::Refused(n) => refused(n, regs),
-        },
-        Status::Refused(n) => refused(n, regs),
-    }
+        slots,
+        file,
+    )
 }
 
 // The caller's registers from a state, for any architecture number and count.
@@ -274,24 +539,21 @@ pub fn apply_state<'a>(
         (layout state) (regs .r))
         ⌝ }
 {
-    let base = base_of(arch, state.cfa_fp, regs);
-    if bad_base(state.cfa_fp, base) {
-        return refused(MISALIGNED, regs);
-    }
-    let cfa = wrapping::add(base, 8 * state.cfa_units as usize);
-    if cfa == 0 {
-        return refused(BAD_CFA_RULE, regs);
-    }
-    apply_at(
+    let mut file = regs;
+    let status = apply_into(
         section,
         section_base,
         stack,
         stack_base,
         arch,
-        cfa,
-        state,
-        regs,
-    )
+        state.cfa_fp,
+        state.cfa_units,
+        state.count,
+        &state.regs,
+        &state.slots,
+        &mut file.r,
+    );
+    Next { status, regs: file }
 }
 
 // apply: the caller's registers from a state.
@@ -484,19 +746,6 @@ fn saved_column(arch: u8, bit: usize) -> usize
     11 + bit
 }
 
-// What stands in a slot of the stack.
-fn slot_in(stack: &[u8], top: usize, slot: usize) -> usize
-    requires { ⌜ (0 < slot) × (8 * slot ≤ top) × (top ≤ length (now stack)) ⌝ }
-    ensures { λ r. ⌜ r ≡ slotIn (now (stack .entry)) top slot ⌝ }
-{
-    let k = top - 8 * slot;
-    let e = k + 8;
-    match load::u64_in(&stack[k..e]) {
-        Word::Value(v) => v,
-        Word::Outside => 0,
-    }
-}
-
 // No slot that a word with n saved registers reads is above this one.
 fn deepest(frame: u32, n: usize) -> usize
     requires { ⌜ n ≤ 18 ⌝ }
@@ -507,46 +756,6 @@ fn deepest(frame: u32, n: usize) -> usize
         return 2;
     }
     past - 1
-}
-
-// The column of the return register.
-fn ra_column(arch: u8) -> usize
-    ensures { λ r. ⌜ (Outcome.Answer r ≡ File.columnOf (Arch.numbers arch) (Arch.numbers arch .ra)) × (r < File.columns) ⌝ }
-{
-    if arch == AARCH64 {
-        return 30;
-    }
-    PC_COLUMN
-}
-
-// Slots 1 to depth lie in the stack.
-fn in_stack(stack: &[u8], stack_base: usize, cfa: usize, depth: usize) -> bool
-    requires { ⌜ depth < 65536 ⌝ }
-    ensures { λ r. ⌜ (r ≡ true → InStack (now (stack .entry)) «stack_base» cfa depth) ⌝ }
-{
-    if cfa < stack_base {
-        return false;
-    }
-    let top = cfa - stack_base;
-    if stack.len() < top {
-        return false;
-    }
-    8 * depth <= top
-}
-
-// No byte of slots 1 to depth lies in the section.
-fn off_section(section: &[u8], section_base: usize, cfa: usize, depth: usize) -> bool
-    requires { ⌜ (depth < 65536) × (8 * depth ≤ cfa) ⌝ }
-    ensures { λ r. ⌜ (r ≡ true → OffSection (now (section .entry)) «section_base» cfa depth) ⌝ }
-{
-    if cfa <= section_base {
-        return true;
-    }
-    let low = cfa - 8 * depth;
-    if low < section_base {
-        return false;
-    }
-    section.len() <= low - section_base
 }
 
 // The registers that the mask names, read from the stack and stored in place.
@@ -638,15 +847,6 @@ fn address_near<'a>(
         return held;
     }
     slot_in(stack, cfa - stack_base, 1)
-}
-
-// sp is the CFA, pc the stripped return address, in place.
-fn return_to(arch: u8, cfa: usize, ra: usize, file: &mut [usize; COLUMNS])
-    ensures { λ _. ⌜ now (file .exit) ≡ Apply.returned (Arch.numbers arch) cfa ra (now (file .entry)) ⌝ }
-{
-    let k = arch::sp_column(arch);
-    file[k] = cfa;
-    file[PC_COLUMN] = arch::stripped(arch, ra);
 }
 
 // The return register, sp and pc in place.

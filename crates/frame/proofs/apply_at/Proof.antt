@@ -1,76 +1,85 @@
 -- `frame::apply_at` meets its contract. Assumes nothing.
 use mathlib.Core.Path.{sym, _∙_, ap}
+use native.Mathlib.Omega.{arith}
 use borrow.Author.Needs.{needs}
+use borrow.Author.Tests.{not-false}
 use Rattle.failure.specs.Outcome.{Answer}
-use Rattle.arch.specs.Answers.{valued, next}
-use Rattle.frame.proofs.Next.{next-done, next-refused}
-use Rattle.frame.proofs.Applied.{pairs-refused, ra-refused, ra-answered}
+use Rattle.arch.proofs.File.{get-at}
+use Rattle.arch.proofs.InPlace.{place-done}
+use Rattle.frame.proofs.Applied.{ra-answered}
 use Rattle.frame.proofs.apply_at.Statement.{statement}
 use Rattle.frame.proofs.apply_at.Tie as tie
 
-restore-pairs-requires : tie.Need-restore-pairs-requires
-restore-pairs-requires c κs = search needs
+reach-requires : tie.Need-reach-requires
+reach-requires c κs = search needs
 
-enum-told : tie.Need-enum-told
-enum-told c = search needs
-
-ra-register-requires : tie.Need-ra-register-requires
-ra-register-requires c κs = search needs
-
-enum-known-ra : tie.Need-enum-known-ra
-enum-known-ra c = search needs
-
-returned-requires : tie.Need-returned-requires
-returned-requires c κs = search needs
-
-done-requires : tie.Need-done-requires
-done-requires c κs = search needs
-
-enum-known-n : tie.Need-enum-known-n
-enum-known-n c = search needs
-
-refused-requires : tie.Need-refused-requires
-refused-requires c κs = search needs
-
-enum-known-status : tie.Need-enum-known-status
-enum-known-status c = search needs
-
-refused-requires-2 : tie.Need-refused-requires-2
-refused-requires-2 c κs = search needs
+apply-plain-requires : tie.Need-apply-plain-requires
+apply-plain-requires c κs = search needs
 
 returns : tie.Need-returns
-returns c =
-    let file = next-done _ _ _ (c .before .before .before .before .before .before .before .before .before .restore-pairs .ensures) (c .before .before .before .before .before .before .enum-told .given .1) in
-    c .done .ensures ∙
-    ap (next _)
-    (ap Answer (c .before .returned .ensures) ∙
-    ra-answered _ _ _ _ _ _ _ file (sym (ap valued (c .before .before .before .ra .given .1)) ∙ c .before .before .before .before .before .ra-register .ensures))
+returns c = search needs
+
+in-stack-requires : tie.Need-in-stack-requires
+in-stack-requires c κs = c .before .reach .ensures .0
+
+apply-plain-requires-2 : tie.Need-apply-plain-requires-2
+apply-plain-requires-2 c κs = search needs
 
 returns-2 : tie.Need-returns-2
-returns-2 c =
-    let file = next-done _ _ _ (c .before .before .before .before .before .before .before .before .restore-pairs .ensures) (c .before .before .before .before .before .enum-told .given .1) in
-    c .refused .ensures ∙
-    ap (next _) (ra-refused _ _ _ _ _ _ _ file (sym (ap valued (c .before .before .n .given .1)) ∙ c .before .before .before .before .ra-register .ensures))
+returns-2 c = search needs
+
+off-section-requires : tie.Need-off-section-requires
+off-section-requires c κs =
+    let stack = c .before .in-stack .ensures (not-false _ (c .if2 .left)) in
+    (c .before .before .before .reach .ensures .0, omega (arith, stack .low))
+
+apply-plain-requires-3 : tie.Need-apply-plain-requires-3
+apply-plain-requires-3 c κs = search needs
 
 returns-3 : tie.Need-returns-3
-returns-3 c =
-    c .refused2 .ensures ∙
-    ap (next _) (pairs-refused _ _ _ _ _ _ (next-refused _ _ _ _ (c .before .before .before .before .before .restore-pairs .ensures) (c .before .before .status .given .1)))
+returns-3 c = search needs
+
+pairs-near-requires : tie.Need-pairs-near-requires
+pairs-near-requires c κs = (
+  c .before .before .before .before .before .before .before .before .before .pre,
+  record { inStack = c .before .before .before .before .in-stack .ensures (not-false _ (c .before .before .before .if2 .left)); off = c .before .before .off-section .ensures (not-false _ (c .before .if3 .left)) },
+  c .before .before .before .before .before .before .reach .ensures .1 (omega (arith, c .before .before .before .before .before .if1 .left)),
+)
+
+ra-column-requires : tie.Need-ra-column-requires
+ra-column-requires c κs = search needs
+
+mul-ra : tie.Need-mul-ra
+mul-ra c = search needs
+
+element-copy-out-ra : tie.Need-element-copy-out-ra
+element-copy-out-ra c = search needs
+
+return-to-requires : tie.Need-return-to-requires
+return-to-requires c κs = search needs
+
+returns-4 : tie.Need-returns-4
+returns-4 c =
+    place-done _ _ _
+    (sym (ra-answered _ _ _ _ _ _ _ (c .before .before .before .before .pairs-near .ensures) (get-at _ _ _ _ (c .before .before .before .ra-column .ensures .0))) ∙
+    ap Answer (sym (c .return-to .ensures)))
 
 pub apply-at-spec : {M : Type 1} → statement M
 apply-at-spec =
     tie.close
     (tie.spec
-    restore-pairs-requires
-    enum-told
-    ra-register-requires
-    enum-known-ra
-    returned-requires
-    done-requires
-    enum-known-n
-    refused-requires
-    enum-known-status
-    refused-requires-2
+    reach-requires
+    apply-plain-requires
     returns
+    in-stack-requires
+    apply-plain-requires-2
     returns-2
-    returns-3)
+    off-section-requires
+    apply-plain-requires-3
+    returns-3
+    pairs-near-requires
+    ra-column-requires
+    mul-ra
+    element-copy-out-ra
+    return-to-requires
+    returns-4)

@@ -1,5 +1,5 @@
 -- `frame::fp_near` meets its contract. Assumes nothing.
-use mathlib.Core.Path.{sym, _∙_, ap}
+use mathlib.Core.Path.{_∙_, ap}
 use native.Mathlib.Omega.{arith}
 use Rattle.failure.specs.Outcome.{Answer}
 use lib.Dec.{lit<, lit≤}

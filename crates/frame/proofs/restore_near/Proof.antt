@@ -1,6 +1,5 @@
 -- `frame::restore_near` meets its contract: each turn restores one register of the mask, or none. Assumes nothing.
-use mathlib.Core.Path.{_≡_, refl, sym, _∙_, ap, subst}
-use Prim.Native.Nat.{ℕ, _<_}
+use mathlib.Core.Path.{refl}
 use native.Mathlib.Omega.{arith}
 use borrow.Author.Needs.{needs}
 use Rattle.mem.specs.Memory.{lent}

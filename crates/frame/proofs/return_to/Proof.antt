@@ -1,5 +1,4 @@
 -- `frame::return_to` meets its contract. Assumes nothing.
-use mathlib.Core.Path.{_∙_}
 use borrow.Author.Needs.{needs}
 use Rattle.frame.proofs.return_to.Statement.{statement}
 use Rattle.frame.proofs.return_to.Tie as tie

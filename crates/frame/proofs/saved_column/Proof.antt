@@ -4,7 +4,6 @@ use Prim.Native.Nat.{_<_}
 use native.Mathlib.Omega.{arith}
 use lib.ListN.{length}
 use borrow.Author.Needs.{needs}
-use borrow.Author.Tests.{lt-ltb, le-ltb, eq-eqb, ne-eqb}
 use Rattle.arch.specs.Arch.{Arch}
 use Rattle.arch.proofs.Arch.{numbers-aarch64, numbers-x86-64}
 use Rattle.frame.proofs.Columns.{low-aarch64, high-aarch64, low-x86-64, high-x86-64}

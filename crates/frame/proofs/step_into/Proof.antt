@@ -1,5 +1,5 @@
 -- `frame::step_into` meets its contract. Assumes nothing.
-use mathlib.Core.Path.{_≡_, sym, _∙_, ap, subst}
+use mathlib.Core.Path.{sym, _∙_, ap, subst}
 use mathlib.Core.List.{List}
 use Prim.Native.Nat.{ℕ}
 use native.Mathlib.Omega.{arith}

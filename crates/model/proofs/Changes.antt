@@ -6,7 +6,7 @@ use mathlib.Core.Logic.{_⊎_, inl, inr, ⊎-elim}
 use Prim.Native.Nat.{ℕ, _^_, _≤_, _<_}
 use native.Mathlib.Omega.{arith}
 use lib.Dec.{eqb, leb, ltb}
-use lib.ListN.{length, getD, set}
+use lib.ListN.{getD, set}
 use borrow.Author.Tests.{eqb-true, eqb-false, ltb-true, leb-true, not-true}
 use Rattle.failure.specs.Choice.{if_then_else_}
 use Rattle.failure.specs.Failure.{oneOf}
@@ -14,13 +14,13 @@ use Rattle.mem.proofs.Tests.{both}
 use Rattle.arch.specs.Arch.{Arch, numbers}
 use Rattle.arch.specs.File.{pcColumn}
 use Rattle.frame.specs.Layout.{Pair}
-use Rattle.model.specs.FrameStep.{maxFrames}
 use Rattle.model.specs.Machine.{Open, Machine, column, isRegister, value}
 use Rattle.model.specs.Described.{isSpilled}
 use Rattle.model.specs.Event.{notSpNorPc, changeAllowed, reloadAllowed, unspilled, reloading, withRegisters, withFrames, change, reload, move}
 use Rattle.model.proofs.Chain.{Kept, AllLive, Inner, Inv}
 use Rattle.model.proofs.Guard.{each}
 use Rattle.model.proofs.Allowed.{if-allowed, if-open}
+use Rattle.model.proofs.Paired.{paired-keeps}
 use Rattle.model.proofs.Registers.{Returning, pushed, left, returning, sp-alone, set-keeps, set-good}
 
 -- the pairs that stay are pairs that were there
@@ -75,30 +75,13 @@ module _ (m : Machine) (f : Open) (fs : List Open) (here : m .frames ≡ f ∷ f
   ending : (reg : ℕ) → (reg ≡ 16 → ⊥) → Inv (withFrames m (reloading f reg ∷ fs))
   ending reg other =
       let live : AllLive (numbers (m .arch)) (m .stack) (f ∷ fs) = rw here at (i .live) in
-      let few : length (f ∷ fs) ≤ maxFrames = rw here at (i .few) in
       let kept : Kept (m .arch) (m .section) f = innermost .0 in
-      record {
-        known = i .known;
-        accepted = i .accepted;
-        bytes = i .bytes;
-        wide = i .wide;
-        values = i .values;
-        few = few;
-        live = (λ p j. let s = live .0 p (unspilled-in (f .spilled) reg p j) in record { within = s .within; holding = s .holding }, live .1);
-        inner = (
-          record {
-            isRecord = kept .isRecord;
-            wide = kept .wide;
-            below = kept .below;
-            keptSp = kept .keptSp;
-            above = kept .above;
-            returns = returns (returning (m .arch)) (kept .returns);
-            keptPc = kept .keptPc;
-            registers = λ p j. kept .registers p (unspilled-in (f .spilled) reg p j);
-          },
-          innermost .1,
-        );
-      }
+      paired-keeps m f fs here (unspilled (f .spilled) reg)
+      (record {
+        returns = returns (returning (m .arch)) (kept .returns);
+        each = λ p j. let was = unspilled-in (f .spilled) reg p j in (kept .registers p was, live .0 p was);
+      })
+      i
     where
       Returns : List Pair → Type 0
       Returns ps = (isSpilled ps (numbers (m .arch) .ra) ≡ true) ⊎ (oneOf (numbers (m .arch) .ra) (numbers (m .arch) .preserved) ≡ true)

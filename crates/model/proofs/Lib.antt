@@ -9,6 +9,7 @@ pub mod Store
 pub mod Chain
 pub mod Slots
 pub mod Fresh
+pub mod Paired
 pub mod Writes
 pub mod Changes
 pub mod Calling

@@ -1,19 +1,20 @@
 -- The events Write and Spill keep the invariant. Assumes nothing.
-use mathlib.Core.Path.{_≡_, refl, sym, subst}
-use mathlib.Core.Bool.{Bool, true, false, not, or-true}
+use mathlib.Core.Path.{_≡_, sym, subst}
+use mathlib.Core.Bool.{Bool, true, not, or-true}
 use mathlib.Core.Logic.{inl, inr, ⊎-elim}
 use mathlib.Core.List.{List, [], _∷_, List·Memᴰ, List·Memᴰ·cases-cons}
 use Prim.Native.Nat.{ℕ, _^_, _<_}
 use lib.Dec.{eqb, leb, ltb}
 use borrow.Author.Tests.{eqb-true}
-use Rattle.mem.specs.Memory.{Region}
 use Rattle.arch.specs.Arch.{Arch, numbers}
 use Rattle.frame.specs.Layout.{Pair}
 use Rattle.model.specs.Machine.{Open, Machine, column, isRegister, value, address, inside, clear}
 use Rattle.model.specs.Described.{isSpilled}
 use Rattle.model.specs.Event.{spillAllowed, spilling, writeAllowed, withWritten, withFrames, spill, write}
-use Rattle.model.proofs.Chain.{Kept, Slot, Live, AllLive, Inner, Inv}
+use Rattle.model.proofs.Chain.{Slot, AllLive, Inner, Inv}
 use Rattle.model.proofs.Guard.{each}
+use Rattle.model.proofs.Allowed.{if-allowed, if-open}
+use Rattle.model.proofs.Paired.{paired-keeps}
 use Rattle.model.proofs.Slots.{written-holds, written-live, written-opens}
 
 -- a place that may be written: it lies in the stack and meets no live slot
@@ -44,11 +45,8 @@ written-keeps m x v place inv =
 
 -- the event Write
 pub write-keeps : (m : Machine) (x v : ℕ) → Inv m → Inv (write m x v)
-write-keeps m x v inv = go (writeAllowed m x v) refl
-  where
-    go : (t : Bool) → writeAllowed m x v ≡ t → Inv (write m x v)
-    go true e = rw e (written-keeps m x v (write-rules m x v e) inv)
-    go false e = rw e inv
+write-keeps m x v inv =
+    if-allowed m _ (writeAllowed m x v) inv λ (g : writeAllowed m x v ≡ true). written-keeps m x v (write-rules m x v g) inv
 
 module _ (m : Machine) (f : Open) (reg slot : ℕ) where
   -- what the rules of a spill give
@@ -85,46 +83,22 @@ module _ (f : Open) (reg slot : ℕ) where
   with-new P first rest p i =
       ⊎-elim (λ (e : p ≡ new reg slot). subst P (sym e) first) (λ (j : List·Memᴰ p (f .spilled)). rest p j) (List·Memᴰ·cases-cons i)
 
-  -- the frame with that pair
-  spilling-kept :
-      (arch : ℕ) (section : Region) → isRegister (numbers arch) reg ≡ true → Kept arch section f → Kept arch section (spilling f reg slot)
-  spilling-kept arch section known k =
-      record {
-        isRecord = k .isRecord;
-        wide = k .wide;
-        below = k .below;
-        keptSp = k .keptSp;
-        above = k .above;
-        returns =
-            ⊎-elim (λ (s : isSpilled (f .spilled) (numbers arch .ra) ≡ true). inl (rw s (or-true (eqb reg (numbers arch .ra)))))
-            inr (k .returns);
-        keptPc = k .keptPc;
-        registers = with-new (λ (p : Pair). isRegister (numbers arch) (p .reg) ≡ true) known (k .registers);
-      }
-
-  -- its live slots
-  spilling-live : (a : Arch) (stack : Region) → Slot a stack f (new reg slot) → Live a stack f → Live a stack (spilling f reg slot)
-  spilling-live a stack first rest p i =
-      let s = with-new (λ (q : Pair). Slot a stack f q) first rest p i in
-      record { within = s .within; holding = s .holding }
-
   -- a register that was written into its slot is spilled
   spilling-keeps :
       (m : Machine) (fs : List Open) → m .frames ≡ f ∷ fs → isRegister (numbers (m .arch)) reg ≡ true →
       Slot (numbers (m .arch)) (m .stack) f (new reg slot) → Inv m → Inv (withFrames m (spilling f reg slot ∷ fs))
   spilling-keeps m fs e known first inv =
-      let (here, rest) : AllLive (numbers (m .arch)) (m .stack) (f ∷ fs) = rw e at (inv .live) in
-      let (kept, chain) : Inner (m .arch) (m .section) (m .registers) (f ∷ fs) = rw e at (inv .inner) in
-      record {
-        known = inv .known;
-        accepted = inv .accepted;
-        bytes = inv .bytes;
-        wide = inv .wide;
-        values = inv .values;
-        few = rw e at (inv .few);
-        live = (spilling-live (numbers (m .arch)) (m .stack) first here, rest);
-        inner = (spilling-kept (m .arch) (m .section) known kept, chain);
-      }
+      let a : Arch = numbers (m .arch) in
+      let (here, _) : AllLive a (m .stack) (f ∷ fs) = rw e at (inv .live) in
+      let (kept, _) : Inner (m .arch) (m .section) (m .registers) (f ∷ fs) = rw e at (inv .inner) in
+      paired-keeps m f fs e (new reg slot ∷ f .spilled)
+      (record {
+        returns = ⊎-elim (λ (s : isSpilled (f .spilled) (a .ra) ≡ true). inl (rw s (or-true (eqb reg (a .ra))))) inr (kept .returns);
+        each =
+            with-new (λ (p : Pair). (isRegister a (p .reg) ≡ true) × Slot a (m .stack) f p) (known, first)
+            (λ p j. (kept .registers p j, here p j));
+      })
+      inv
 
 -- a register's value is a number of 64 bits
 value-below : (m : Machine) (reg : ℕ) → Inv m → value (numbers (m .arch)) (m .registers) reg < 2 ^ 64
@@ -133,21 +107,12 @@ value-below m reg inv = inv .values (column (numbers (m .arch)) reg)
 
 -- the event Spill
 pub spill-keeps : (m : Machine) (reg slot : ℕ) → Inv m → Inv (spill m reg slot (m .frames))
-spill-keeps m reg slot inv = go (m .frames) refl
-  where
-    allowed : (f : Open) (fs : List Open) → m .frames ≡ f ∷ fs → Spilled m f reg slot →
-        Inv (withFrames (withWritten m (address (f .cfa) slot) (value (numbers (m .arch)) (m .registers) reg)) (spilling f reg slot ∷ fs))
-    allowed f fs e s =
-        let x : ℕ = address (f .cfa) slot in
-        let v : ℕ = value (numbers (m .arch)) (m .registers) reg in
-        spilling-keeps f reg slot (withWritten m x v) fs e (s .register)
-        (written-holds (numbers (m .arch)) (m .stack) f (new reg slot) v (s .place .within) (value-below m reg inv) (s .same))
-        (written-keeps m x v (s .place) inv)
-
-    try : (f : Open) (fs : List Open) → m .frames ≡ f ∷ fs → (t : Bool) → spillAllowed m f reg slot ≡ t → Inv (spill m reg slot (f ∷ fs))
-    try f fs e true r = rw r (allowed f fs e (spill-rules m f reg slot r))
-    try f fs e false r = rw r inv
-
-    go : (fs : List Open) → m .frames ≡ fs → Inv (spill m reg slot fs)
-    go [] e = inv
-    go (f ∷ fs) e = try f fs e (spillAllowed m f reg slot) refl
+spill-keeps m reg slot inv =
+    if-open Inv m (spill m reg slot) inv λ (f : Open) (fs : List Open) here.
+    if-allowed m _ (spillAllowed m f reg slot) inv λ (g : spillAllowed m f reg slot ≡ true).
+    let s = spill-rules m f reg slot g in
+    let x : ℕ = address (f .cfa) slot in
+    let v : ℕ = value (numbers (m .arch)) (m .registers) reg in
+    spilling-keeps f reg slot (withWritten m x v) fs here (s .register)
+    (written-holds (numbers (m .arch)) (m .stack) f (new reg slot) v (s .place .within) (value-below m reg inv) (s .same))
+    (written-keeps m x v (s .place) inv)

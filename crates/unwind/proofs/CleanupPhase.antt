@@ -13,7 +13,7 @@ use Rattle.failure.specs.Outcome.{Outcome, Answer, _>>=_}
 use Rattle.mem.specs.Memory.{Memory, Lent}
 use Rattle.mem.specs.Opening.{opens}
 use Rattle.mem.specs.Wrapping.{sum}
-use Rattle.arch.specs.Arch.{Arch, numbers, isKnown}
+use Rattle.arch.specs.Arch.{numbers, isKnown}
 use Rattle.arch.specs.File.{sp, pc, setPc}
 use Rattle.rows.specs.Row as Row
 use Rattle.rows.specs.Row.{Found}

@@ -1,6 +1,6 @@
 -- Laws of a frame's step and row. Assumes nothing.
 use mathlib.Core.Path.{_≡_, refl, sym, _∙_, ap}
-use mathlib.Core.Bool.{Bool, true, false}
+use mathlib.Core.Bool.{Bool, false}
 use mathlib.Core.List.{List}
 use mathlib.Core.Option.{Option, none, some}
 use Prim.Native.Nat.{ℕ, _-_, _^_, _<_}
@@ -11,7 +11,6 @@ use Rattle.mem.specs.Memory.{Memory}
 use Rattle.arch.specs.Arch.{Arch, numbers}
 use Rattle.arch.specs.File.{pc}
 use Rattle.arch.specs.declared.Status.{Status}
-use Rattle.arch.specs.declared.Status.the-variants as status
 use Rattle.rows.specs.Row.{Found, found}
 use Rattle.rows.specs.declared.Row.{Row}
 use Rattle.rows.specs.declared.Row.the-variants as row
@@ -29,12 +28,10 @@ use Rattle.frame.specs.Apply.{apply}
 use Rattle.model.specs.FrameStep as Walk
 use Rattle.model.specs.FrameStep.{Frame, Step, sectionOf, callerOf, callerFile, past, frameStep}
 use Rattle.unwind.specs.Answers.{stepped, staying}
-use Rattle.unwind.specs.Turns.{passed, recordOf, located, Seen, End, Rowless, WithRow, seenAs, seenAt, seen, callerByRun, metRow, rowPast, meeting}
+use Rattle.unwind.specs.Turns.{passed, recordOf, located, Seen, End, seenAs, seenAt, seen, callerByRun, metRow, rowPast, meeting}
 use Rattle.unwind.specs.declared.Walked.the-variants as walked
 use Rattle.unwind.specs.declared.Located.{Located}
-use Rattle.unwind.specs.declared.Located.the-variants as place
 use Rattle.unwind.specs.declared.Met.{Met}
-use Rattle.unwind.specs.declared.Met.the-variants as met
 use Rattle.unwind.proofs.Walks.{pastRecord, recordIn, step-by-record, record-bounds, by-run, by-run-refused, caller-2}
 
 module _ (arch : ℕ) (m : Memory) (f : Frame) (l v : Located) (e : located l ≡ recordIn arch m f) (p : l ≡ v) where

@@ -1,7 +1,7 @@
 -- The outcome that an answer of resume tells of is demand 3's. Assumes nothing.
 use mathlib.Core.Bool.{Bool}
 use mathlib.Core.List.{List}
-use mathlib.Core.Path.{_≡_, refl, sym, _∙_, ap, subst}
+use mathlib.Core.Path.{_≡_, refl, _∙_}
 use Prim.Native.Nat.{ℕ}
 use Rattle.failure.specs.Outcome.{Outcome, Refused, Answer}
 use Rattle.mem.specs.Memory.{Lent}
@@ -10,9 +10,8 @@ use Rattle.model.specs.declared.Unwinding.{Unwinding}
 use Rattle.model.specs.Search.{Searched, Chosen, Stopped, Ended}
 use Rattle.model.specs.Cleanup.{Cleaned, Install, Fatal, Finished}
 use Rattle.model.specs.Unwinding.{frame0, raise, raised, resume}
-use Rattle.model.specs.Event.{steps}
-use Rattle.model.specs.Expected.{Given, due}
-use Rattle.model.specs.Call.{after, nth, Gives, AtThrow, Promised}
+use Rattle.model.specs.Expected.{Given}
+use Rattle.model.specs.Call.{after, Gives, Promised}
 use Rattle.model.proofs.Promised.{promised}
 use Rattle.unwind.specs.Answers.{searched, raiseOf, raisedBy, resumedBy, cleaned, callNumber, unwoundBy}
 use Rattle.unwind.specs.declared.Raised.{Raised}

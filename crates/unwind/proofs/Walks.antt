@@ -1,6 +1,6 @@
 -- Laws of the frame step. Assumes nothing.
 use mathlib.Core.Path.{_≡_, refl, sym, _∙_, ap}
-use mathlib.Core.Bool.{Bool, true, false, not, _&&_, _||_}
+use mathlib.Core.Bool.{Bool, true, false}
 use mathlib.Core.List.{List}
 use mathlib.Core.Option.{Option, none, some}
 use Prim.Native.Nat.{ℕ, _-_, _≤_, _<_}
@@ -15,9 +15,7 @@ use Rattle.failure.specs.Failure.{StackNotAdvancing, TooManyFrames}
 use Rattle.mem.specs.Memory.{Memory}
 use Rattle.arch.specs.Arch.{Arch, numbers}
 use Rattle.arch.specs.File.{sp, pc}
-use Rattle.arch.specs.Answers.{next, InPlace}
-use Rattle.arch.specs.declared.Regs.{Regs}
-use Rattle.arch.specs.declared.Next.{Next}
+use Rattle.arch.specs.Answers.{InPlace}
 use Rattle.arch.specs.declared.Status.{Status}
 use Rattle.arch.specs.declared.Status.the-variants as status
 use Rattle.lookup.specs.declared.Record.{Record}
@@ -31,19 +29,10 @@ use Rattle.model.specs.FrameStep as Walk
 use Rattle.model.specs.FrameStep.{Frame, Step, sectionOf, lookedUp, callerFile, notAdvancing, callerOf, past, pastFound, frameStep}
 use Rattle.unwind.specs.Turns.{fileTold, callerByRun, advanced, passed, functionOf, recordOf}
 
--- a file by value tells the outcome that it was made of
-pub next-told : (regs : Regs) (o : Outcome (List ℕ)) (r : Next) → r ≡ next regs o → fileTold (r .status) (r .regs .r) ≡ o
-next-told regs (Outcome.Refused n) r e = ap (λ (x : Next). fileTold (x .status) (x .regs .r)) e
-next-told regs (Answer file) r e = ap (λ (x : Next). fileTold (x .status) (x .regs .r)) e
-
--- so does a file in place
+-- a file in place tells the outcome that it was made of
 pub in-place-told : (entry : List ℕ) (o : Outcome (List ℕ)) (s : Status) (exit : List ℕ) → InPlace entry o s exit → fileTold s exit ≡ o
 in-place-told entry (Outcome.Refused n) s exit e = ap (λ (x : Status). fileTold x exit) (e .status)
 in-place-told entry (Answer file) s exit e = ap (λ (x : Status). fileTold x exit) (e .status) ∙ ap Answer (e .file)
-
--- a status and the file beside it tell the outcome
-pub told : (o : Outcome (List ℕ)) (s t : Status) (file : List ℕ) → fileTold s file ≡ o → s ≡ t → o ≡ fileTold t file
-told o s t file e p = sym e ∙ ap (λ (x : Status). fileTold x file) p
 
 module _ (a : Arch) (m : Memory) (program limit off : ℕ) (file : List ℕ) where
   -- run, then apply

@@ -39,7 +39,7 @@ use failure::EKO_UNSORTED;
 use failure::HANDLER_FRAME_MISSED;
 use failure::STACK_NOT_ADVANCING;
 use failure::TOO_MANY_FRAMES;
-use frame::apply_state;
+use frame::apply_into;
 use frame::step_into;
 use lookup::Lookup;
 use lookup::Record;
@@ -182,20 +182,19 @@ fn caller_by_state<'a>(
         (layout state) (now (file .entry))
         ⌝ }
 {
-    let r = *file;
-    let next = apply_state(
+    apply_into(
         section,
         section_base,
         stack,
         stack_base,
         arch,
-        state,
-        Regs { r },
-    );
-    let regs = next.regs;
-    let caller = regs.r;
-    *file = caller;
-    next.status
+        state.cfa_fp,
+        state.cfa_units,
+        state.count,
+        &state.regs,
+        &state.slots,
+        file,
+    )
 }
 
 // The caller's registers of version 2: by run, then apply.

@@ -1,7 +1,6 @@
 -- `unwind::meet_through` meets its contract. Assumes nothing.
 use mathlib.Core.Path.{refl, sym, _∙_, ap}
 use Prim.Native.Nat.{ℕ}
-use Rattle.arch.specs.Arch.{numbers}
 use Rattle.arch.specs.declared.Status.the-variants as status
 use Rattle.model.specs.FrameStep.{lookedUp}
 use Rattle.personality.proofs.Reasons.{row-above}

@@ -1,11 +1,9 @@
 -- `unwind::step_from` meets its contract. Assumes nothing.
-use mathlib.Core.Path.{_≡_, refl, sym, _∙_, ap}
-use mathlib.Core.Option.{some}
+use mathlib.Core.Path.{sym, _∙_, ap}
 use native.Mathlib.Omega.{arith}
-use Rattle.failure.specs.Outcome.{Answer}
 use Rattle.unwind.specs.Answers.{stepped}
 use Rattle.unwind.specs.Turns.{located}
-use Rattle.unwind.proofs.Walks.{record-bounds, step-by-record}
+use Rattle.unwind.proofs.Walks.{record-bounds}
 use Rattle.unwind.proofs.Meeting.{step-located, passed-told, stays, stays-refused}
 use borrow.Author.Needs.{needs}
 use Rattle.unwind.proofs.step_from.Statement.{statement}

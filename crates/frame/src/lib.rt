@@ -20,7 +20,7 @@ ghost use Rattle.frame.specs.Frame as Frame;
 ghost use Rattle.frame.specs.Step as Step;
 ghost use Rattle.frame.specs.Public as Public;
 ghost use Rattle.frame.specs.Answers.{Restores, Partly};
-ghost use Rattle.frame.specs.Near.{InStack, OffSection, Near, slotIn, Usable, Within, deepest, Saves};
+ghost use Rattle.frame.specs.Near.{Near, slotIn, Usable, Within, deepest, Saves};
 use arch::AARCH64;
 use arch::COLUMNS;
 use arch::Column;
@@ -97,11 +97,23 @@ fn load_slot<'a>(
     }
 }
 
-// Slots 1 to depth lie in the stack.
-fn in_stack(stack: &[u8], stack_base: usize, cfa: usize, depth: usize) -> bool
+// There are slots 1 to depth, they lie in the stack, and no byte of them in the section.
+fn near<'a>(
+    section: &'a [u8],
+    section_base: usize,
+    stack: &'a [u8],
+    stack_base: usize,
+    cfa: usize,
+    depth: usize,
+) -> bool
     requires { ⌜ depth < 65536 ⌝ }
-    ensures { λ r. ⌜ (r ≡ true → InStack (now (stack .entry)) «stack_base» cfa depth) ⌝ }
+    ensures { λ r. ⌜
+        (r ≡ true → (0 < depth) × Near (now (section .entry)) «section_base» (now (stack .entry)) «stack_base» cfa depth)
+        ⌝ }
 {
+    if depth == 0 {
+        return false;
+    }
     if cfa < stack_base {
         return false;
     }
@@ -109,14 +121,9 @@ fn in_stack(stack: &[u8], stack_base: usize, cfa: usize, depth: usize) -> bool
     if stack.len() < top {
         return false;
     }
-    8 * depth <= top
-}
-
-// No byte of slots 1 to depth lies in the section.
-fn off_section(section: &[u8], section_base: usize, cfa: usize, depth: usize) -> bool
-    requires { ⌜ (depth < 65536) × (8 * depth ≤ cfa) ⌝ }
-    ensures { λ r. ⌜ (r ≡ true → OffSection (now (section .entry)) «section_base» cfa depth) ⌝ }
-{
+    if top < 8 * depth {
+        return false;
+    }
     if cfa <= section_base {
         return true;
     }
@@ -392,35 +399,7 @@ fn apply_at<'a, 'b>(
         ⌝ }
 {
     let depth = reach(arch, n, regs, slots);
-    if depth == 0 {
-        return apply_plain(
-            section,
-            section_base,
-            stack,
-            stack_base,
-            arch,
-            cfa,
-            n,
-            regs,
-            slots,
-            file,
-        );
-    }
-    if !in_stack(stack, stack_base, cfa, depth) {
-        return apply_plain(
-            section,
-            section_base,
-            stack,
-            stack_base,
-            arch,
-            cfa,
-            n,
-            regs,
-            slots,
-            file,
-        );
-    }
-    if !off_section(section, section_base, cfa, depth) {
+    if !near(section, section_base, stack, stack_base, cfa, depth) {
         return apply_plain(
             section,
             section_base,
@@ -1111,20 +1090,7 @@ pub fn step_into<'a>(
         Value::Is(cfa) => {
             let n = named_count(frame);
             let depth = deepest(frame, n);
-            if !in_stack(stack, stack_base, cfa, depth) {
-                return step_plain(
-                    section,
-                    section_base,
-                    stack,
-                    stack_base,
-                    arch,
-                    cfa,
-                    frame,
-                    n,
-                    file,
-                );
-            }
-            if !off_section(section, section_base, cfa, depth) {
+            if !near(section, section_base, stack, stack_base, cfa, depth) {
                 return step_plain(
                     section,
                     section_base,

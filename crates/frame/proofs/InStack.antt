@@ -70,24 +70,25 @@ module _ (section : List ℕ) (sectionBase : ℕ) (stack : List ℕ) (stackBase 
   pub near-less : (d : ℕ) → d ≤ depth → Near section sectionBase stack stackBase at d
   near-less d h =
       record {
-        inStack = record { low = omega (arith, near .inStack .low); high = near .inStack .high };
+        low = omega (arith, near .low);
+        high = near .high;
         off = ⊎-elim (λ (e : sectionBase + length section + 8 * depth ≤ at). inl (omega arith)) (λ (e : at ≤ sectionBase). inr e) (near .off);
       }
 
   module _ (slot : ℕ) (some : 0 < slot) (few : slot ≤ depth) (fits : at < 2 ^ 64) where
     -- the address of a slot
     address : difference at (8 * slot) ≡ at - 8 * slot
-    address = omega (arith, near .inStack .low)
+    address = omega (arith, near .low)
 
     not-section : holds sectionBase (length section) (at - 8 * slot) 8 ≡ false
     not-section =
         ⊎-elim
         (λ (e : sectionBase + length section + 8 * depth ≤ at). past-end sectionBase (length section) (at - 8 * slot) (omega arith))
-        (λ (e : at ≤ sectionBase). before-start sectionBase (length section) (at - 8 * slot) (omega (arith, near .inStack .low)))
+        (λ (e : at ≤ sectionBase). before-start sectionBase (length section) (at - 8 * slot) (omega (arith, near .low)))
         (near .off)
 
     in-stack : holds stackBase (length stack) (at - 8 * slot) 8 ≡ true
-    in-stack = holds-when stackBase (length stack) (at - 8 * slot) 8 (omega (arith, near .inStack .low)) (omega (arith, near .inStack .low, near .inStack .high))
+    in-stack = holds-when stackBase (length stack) (at - 8 * slot) 8 (omega (arith, near .low)) (omega (arith, near .low, near .high))
 
     -- a slot that is near is read from the stack
     pub near-loads :
@@ -95,7 +96,7 @@ module _ (section : List ℕ) (sectionBase : ℕ) (stack : List ℕ) (stackBase 
         Answer v ≡ loadSlot (lent section sectionBase stack stackBase .regions) at slot
     unfolding loadSlot load bytesAt
     near-loads v is =
-        let k : at - stackBase - 8 * slot ≡ at - 8 * slot - stackBase = omega (arith, near .inStack .low) in
+        let k : at - stackBase - 8 * slot ≡ at - 8 * slot - stackBase = omega (arith, near .low) in
         rw (address, not-section, in-stack) (ap Answer (is ∙ ap (λ (i : ℕ). littleEndian (take 8 (drop i stack))) k))
 
 -- the deepest slot, by the first slot

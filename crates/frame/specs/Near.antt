@@ -14,19 +14,11 @@ use Rattle.arch.specs.File.{columnOf}
 use Rattle.frame.specs.Frame.{mask, named, firstSlot}
 use Rattle.frame.specs.Step.{pastTable}
 
--- slots 1 to depth lie in the stack
-pub record InStack (stack : List ℕ) (stackBase at depth : ℕ) : Type 0 where
+-- slots 1 to depth lie in the stack, and none of their bytes in the section, where a read looks first
+pub record Near (section : List ℕ) (sectionBase : ℕ) (stack : List ℕ) (stackBase at depth : ℕ) : Type 0 where
   pub low : stackBase + 8 * depth ≤ at
   pub high : at ≤ stackBase + length stack
-
--- none of their bytes lies in the section
-abbrev pub OffSection : List ℕ → ℕ → ℕ → ℕ → Type 0
-OffSection section sectionBase at depth = (sectionBase + length section + 8 * depth ≤ at) ⊎ (at ≤ sectionBase)
-
--- both, so that a read, which looks in the section first, finds them in the stack
-pub record Near (section : List ℕ) (sectionBase : ℕ) (stack : List ℕ) (stackBase at depth : ℕ) : Type 0 where
-  pub inStack : InStack stack stackBase at depth
-  pub off : OffSection section sectionBase at depth
+  pub off : (sectionBase + length section + 8 * depth ≤ at) ⊎ (at ≤ sectionBase)
 
 -- the number in a slot, where the CFA is the stack's offset top
 abbrev pub slotIn : List ℕ → ℕ → ℕ → ℕ

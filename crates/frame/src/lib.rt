@@ -19,8 +19,8 @@ ghost use Rattle.frame.specs.Apply as Apply;
 ghost use Rattle.frame.specs.Frame as Frame;
 ghost use Rattle.frame.specs.Step as Step;
 ghost use Rattle.frame.specs.Public as Public;
-ghost use Rattle.frame.specs.Answers.{Restores, Partly};
-ghost use Rattle.frame.specs.Near.{InStack, OffSection, Near, slotIn, Usable, Within, deepest, Saves};
+ghost use Rattle.frame.specs.Answers.{Partly};
+ghost use Rattle.frame.specs.Near.{Near, slotIn, Usable, Within, deepest, Saves};
 use arch::AARCH64;
 use arch::COLUMNS;
 use arch::Column;
@@ -48,12 +48,6 @@ pub const KIND_LEAF: u32 = 0;
 pub const KIND_FP: u32 = 1;
 
 pub const KIND_SP: u32 = 2;
-
-// A saved register: its column and its value, or a refusal.
-enum Saved {
-    At(usize, usize),
-    Refused(u32),
-}
 
 // A refusal hands back the file that came in.
 fn refused(n: u32, regs: Regs) -> Next
@@ -97,11 +91,23 @@ fn load_slot<'a>(
     }
 }
 
-// Slots 1 to depth lie in the stack.
-fn in_stack(stack: &[u8], stack_base: usize, cfa: usize, depth: usize) -> bool
+// There are slots 1 to depth, they lie in the stack, and no byte of them in the section.
+fn near<'a>(
+    section: &'a [u8],
+    section_base: usize,
+    stack: &'a [u8],
+    stack_base: usize,
+    cfa: usize,
+    depth: usize,
+) -> bool
     requires { ⌜ depth < 65536 ⌝ }
-    ensures { λ r. ⌜ (r ≡ true → InStack (now (stack .entry)) «stack_base» cfa depth) ⌝ }
+    ensures { λ r. ⌜
+        (r ≡ true → (0 < depth) × Near (now (section .entry)) «section_base» (now (stack .entry)) «stack_base» cfa depth)
+        ⌝ }
 {
+    if depth == 0 {
+        return false;
+    }
     if cfa < stack_base {
         return false;
     }
@@ -109,14 +115,9 @@ fn in_stack(stack: &[u8], stack_base: usize, cfa: usize, depth: usize) -> bool
     if stack.len() < top {
         return false;
     }
-    8 * depth <= top
-}
-
-// No byte of slots 1 to depth lies in the section.
-fn off_section(section: &[u8], section_base: usize, cfa: usize, depth: usize) -> bool
-    requires { ⌜ (depth < 65536) × (8 * depth ≤ cfa) ⌝ }
-    ensures { λ r. ⌜ (r ≡ true → OffSection (now (section .entry)) «section_base» cfa depth) ⌝ }
-{
+    if top < 8 * depth {
+        return false;
+    }
     if cfa <= section_base {
         return true;
     }
@@ -157,32 +158,6 @@ fn return_to(arch: u8, cfa: usize, ra: usize, file: &mut [usize; COLUMNS])
     let k = arch::sp_column(arch);
     file[k] = cfa;
     file[PC_COLUMN] = arch::stripped(arch, ra);
-}
-
-// A pair: its slot is read, then its register's column found.
-fn saved_at<'a>(
-    section: &'a [u8],
-    section_base: usize,
-    stack: &'a [u8],
-    stack_base: usize,
-    arch: u8,
-    cfa: usize,
-    reg: u16,
-    slot: u16,
-) -> Saved
-    ensures { λ r. ⌜
-        Restores (Arch.numbers arch)
-        (lent (now (section .entry)) «section_base» (now (stack .entry)) «stack_base» .regions)
-        cfa (record { reg = reg; slot = slot }) r
-        ⌝ }
-{
-    match load_slot(section, section_base, stack, stack_base, cfa, slot as usize) {
-        Value::Is(v) => match arch::column_of(arch, reg) {
-            Column::At(k) => Saved::At(k, v),
-            Column::Unknown => Saved::Refused(UNKNOWN_REGISTER),
-        },
-        Value::Refused(n) => Saved::Refused(n),
-    }
 }
 
 // How many pairs a state has: its arrays have no more than 32.
@@ -305,18 +280,19 @@ fn restore_pairs<'a, 'b>(
 {
     let mut i = 0;
     while i < n {
-        match saved_at(
+        match load_slot(
             section,
             section_base,
             stack,
             stack_base,
-            arch,
             cfa,
-            regs[i],
-            slots[i],
+            wide(slots[i]),
         ) {
-            Saved::At(k, v) => file[k] = v,
-            Saved::Refused(x) => return Status::Refused(x),
+            Value::Is(v) => match arch::column_of(arch, regs[i]) {
+                Column::At(k) => file[k] = v,
+                Column::Unknown => return Status::Refused(UNKNOWN_REGISTER),
+            },
+            Value::Refused(x) => return Status::Refused(x),
         }
         i += 1;
     }
@@ -392,35 +368,7 @@ fn apply_at<'a, 'b>(
         ⌝ }
 {
     let depth = reach(arch, n, regs, slots);
-    if depth == 0 {
-        return apply_plain(
-            section,
-            section_base,
-            stack,
-            stack_base,
-            arch,
-            cfa,
-            n,
-            regs,
-            slots,
-            file,
-        );
-    }
-    if !in_stack(stack, stack_base, cfa, depth) {
-        return apply_plain(
-            section,
-            section_base,
-            stack,
-            stack_base,
-            arch,
-            cfa,
-            n,
-            regs,
-            slots,
-            file,
-        );
-    }
-    if !off_section(section, section_base, cfa, depth) {
+    if !near(section, section_base, stack, stack_base, cfa, depth) {
         return apply_plain(
             section,
             section_base,
@@ -1111,20 +1059,7 @@ pub fn step_into<'a>(
         Value::Is(cfa) => {
             let n = named_count(frame);
             let depth = deepest(frame, n);
-            if !in_stack(stack, stack_base, cfa, depth) {
-                return step_plain(
-                    section,
-                    section_base,
-                    stack,
-                    stack_base,
-                    arch,
-                    cfa,
-                    frame,
-                    n,
-                    file,
-                );
-            }
-            if !off_section(section, section_base, cfa, depth) {
+            if !near(section, section_base, stack, stack_base, cfa, depth) {
                 return step_plain(
                     section,
                     section_base,

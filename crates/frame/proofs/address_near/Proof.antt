@@ -19,11 +19,11 @@ returns : tie.Need-returns
 returns c = λ file e. address-register _ _ _ _ file _ (sym (c .before .ra-slot .ensures) ∙ c .if1 .taken) e
 
 sub-slot-in : tie.Need-sub-slot-in
-sub-slot-in c = omega (arith, c .before .before .before .before .pre .inStack .low)
+sub-slot-in c = omega (arith, c .before .before .before .before .pre .low)
 
 slot-in-requires : tie.Need-slot-in-requires
 slot-in-requires c κs =
-    let near = c .before .before .before .before .pre .inStack in
+    let near = c .before .before .before .before .pre in
     (lit< tt, omega (arith, near .low), omega (arith, near .high))
 
 returns-2 : tie.Need-returns-2

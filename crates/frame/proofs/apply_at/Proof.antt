@@ -1,6 +1,5 @@
 -- `frame::apply_at` meets its contract. Assumes nothing.
 use mathlib.Core.Path.{sym, _∙_, ap}
-use native.Mathlib.Omega.{arith}
 use borrow.Author.Needs.{needs}
 use borrow.Author.Tests.{not-false}
 use Rattle.failure.specs.Outcome.{Answer}
@@ -13,38 +12,19 @@ use Rattle.frame.proofs.apply_at.Tie as tie
 reach-requires : tie.Need-reach-requires
 reach-requires c κs = search needs
 
+near-requires : tie.Need-near-requires
+near-requires c κs = c .reach .ensures .0
+
 apply-plain-requires : tie.Need-apply-plain-requires
-apply-plain-requires c κs = search needs
+apply-plain-requires c κs = c .before .before .before .before .before .before .pre
 
 returns : tie.Need-returns
-returns c = search needs
-
-in-stack-requires : tie.Need-in-stack-requires
-in-stack-requires c κs = c .before .reach .ensures .0
-
-apply-plain-requires-2 : tie.Need-apply-plain-requires-2
-apply-plain-requires-2 c κs = search needs
-
-returns-2 : tie.Need-returns-2
-returns-2 c = search needs
-
-off-section-requires : tie.Need-off-section-requires
-off-section-requires c κs =
-    let stack = c .before .in-stack .ensures (not-false _ (c .if2 .left)) in
-    (c .before .before .before .reach .ensures .0, omega (arith, stack .low))
-
-apply-plain-requires-3 : tie.Need-apply-plain-requires-3
-apply-plain-requires-3 c κs = search needs
-
-returns-3 : tie.Need-returns-3
-returns-3 c = search needs
+returns c = c .apply-plain .ensures
 
 pairs-near-requires : tie.Need-pairs-near-requires
-pairs-near-requires c κs = (
-  c .before .before .before .before .before .before .before .before .before .pre,
-  record { inStack = c .before .before .before .before .in-stack .ensures (not-false _ (c .before .before .before .if2 .left)); off = c .before .before .off-section .ensures (not-false _ (c .before .if3 .left)) },
-  c .before .before .before .before .before .before .reach .ensures .1 (omega (arith, c .before .before .before .before .before .if1 .left)),
-)
+pairs-near-requires c κs =
+    let near = c .before .before .near .ensures (not-false _ (c .before .if1 .left)) in
+    (c .before .before .before .before .before .before .pre, near .1, c .before .before .before .reach .ensures .1 (near .0))
 
 ra-column-requires : tie.Need-ra-column-requires
 ra-column-requires c κs = search needs
@@ -58,8 +38,8 @@ element-copy-out-ra c = search needs
 return-to-requires : tie.Need-return-to-requires
 return-to-requires c κs = search needs
 
-returns-4 : tie.Need-returns-4
-returns-4 c =
+returns-2 : tie.Need-returns-2
+returns-2 c =
     place-done _ _ _
     (sym (ra-answered _ _ _ _ _ _ _ (c .before .before .before .before .pairs-near .ensures) (get-at _ _ _ _ (c .before .before .before .ra-column .ensures .0))) ∙
     ap Answer (sym (c .return-to .ensures)))
@@ -69,17 +49,12 @@ apply-at-spec =
     tie.close
     (tie.spec
     reach-requires
+    near-requires
     apply-plain-requires
     returns
-    in-stack-requires
-    apply-plain-requires-2
-    returns-2
-    off-section-requires
-    apply-plain-requires-3
-    returns-3
     pairs-near-requires
     ra-column-requires
     mul-ra
     element-copy-out-ra
     return-to-requires
-    returns-4)
+    returns-2)

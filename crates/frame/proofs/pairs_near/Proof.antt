@@ -28,7 +28,7 @@ abbrev μ-loop : tie.MeasureT-loop
 μ-loop section section-base stack stack-base arch cfa depth n regs slots file₀ top i₀ file i = n - i
 
 sub-top : tie.Need-sub-top Inv-loop μ-loop
-sub-top c = omega (arith, c .before .before .pre .1 .inStack .low)
+sub-top c = omega (arith, c .before .before .pre .1 .low)
 
 loop-holds : tie.Need-loop-holds Inv-loop μ-loop
 loop-holds c = turn-begin _ _ _ _ _ _ _
@@ -56,7 +56,7 @@ wide-requires c κs = search needs
 
 slot-in-requires : tie.Need-slot-in-requires Inv-loop μ-loop
 slot-in-requires c κs =
-    let near = c .before .before .before .before .before .before .before .before .before .before .before .pre .1 .inStack in
+    let near = c .before .before .before .before .before .before .before .before .before .before .before .pre .1 in
     let pair = c .before .before .before .before .before .before .before .before .before .before .before .pre .2 (c .before .before .before .before .before .before .before .before .loop .i) (c .before .before .before .before .before .before .before .loop-test .taken) in
     let w = c .wide .ensures .0 in
     (omega (arith, pair .0 .some, w), omega (arith, pair .1, near .low, w), omega (arith, near .high))

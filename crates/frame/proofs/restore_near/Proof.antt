@@ -24,7 +24,7 @@ abbrev μ-loop : tie.MeasureT-loop
 μ-loop section section-base stack stack-base arch cfa frame n file₀ top rest₀ bit₀ k₀ file rest bit k = rest
 
 sub-top : tie.Need-sub-top Inv-loop μ-loop
-sub-top c = omega (arith, c .before .before .pre .0 .inStack .low)
+sub-top c = omega (arith, c .before .before .pre .0 .low)
 
 mask-requires : tie.Need-mask-requires Inv-loop μ-loop
 mask-requires c κs = search needs
@@ -59,7 +59,7 @@ slot-in-requires c κs =
     let l = saved-place _ _ _ _ _ _ _ _ _ _ t (c .before .before .before .loop-test .taken) in
     let b = slot-bounds (x .frame) (x .n) (c .before .before .before .before .loop .k) (saved-some _ _ _ _ _ _ _ _ _ _ t l (c .before .if1 .taken)) (c .before .before .before .before .before .before .before .before .pre .1 .some) in
     let e = c .slot-of .ensures .0 in
-    let near = c .before .before .before .before .before .before .before .before .pre .0 .inStack in
+    let near = c .before .before .before .before .before .before .before .before .pre .0 in
     (omega (arith, b .0, e), omega (arith, b .1, e, near .low), omega (arith, near .high))
 
 mul-file : tie.Need-mul-file Inv-loop μ-loop

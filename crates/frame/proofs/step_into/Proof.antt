@@ -48,8 +48,8 @@ deepest-requires c κs =
     let file = now (c .before .before .before .before .before .before .before .before .before .before .before .args .file) in
     saves-few _ _ _ (saves _ _ _ file _ _ (sym (ap valued (c .before .before .cfa .given .1)) ∙ c .before .before .before .before .frame-cfa .ensures file (ap (λ (k : ℕ). getD file k 0) (c .before .before .before .before .before .before .before .before .sp-column .ensures .0)) (ap (λ (k : ℕ). getD file k 0) (c .before .before .before .before .before .before .before .fp-column .ensures .0))) (c .named-count .ensures))
 
-in-stack-requires : tie.Need-in-stack-requires
-in-stack-requires c κs = omega (arith, c .deepest .ensures .1)
+near-requires : tie.Need-near-requires
+near-requires c κs = omega (arith, c .deepest .ensures .1)
 
 step-plain-requires : tie.Need-step-plain-requires
 step-plain-requires c κs =
@@ -62,42 +62,25 @@ returns c =
     subst (λ (o : Outcome (List ℕ)). InPlace file o (c .step-plain .result) (c .step-plain .last .1 .1 .1 .1 .1 .1 .1 .1 .0))
     (word-passes _ _ _ _ file _ (sym (ap valued (c .before .before .before .before .before .before .before .cfa .given .1)) ∙ c .before .before .before .before .before .before .before .before .before .frame-cfa .ensures file (ap (λ (k : ℕ). getD file k 0) (c .before .before .before .before .before .before .before .before .before .before .before .before .before .sp-column .ensures .0)) (ap (λ (k : ℕ). getD file k 0) (c .before .before .before .before .before .before .before .before .before .before .before .before .fp-column .ensures .0)))) (c .step-plain .ensures)
 
-off-section-requires : tie.Need-off-section-requires
-off-section-requires c κs =
-    let stack = c .before .in-stack .ensures (not-false _ (c .if1 .left)) in
-    (omega (arith, c .before .before .deepest .ensures .1), omega (arith, stack .low))
-
-step-plain-requires-2 : tie.Need-step-plain-requires-2
-step-plain-requires-2 c κs =
-    let file = now (c .before .before .before .before .before .before .before .before .before .before .before .before .before .before .before .before .before .args .file) in
-    saves _ _ _ file _ _ (sym (ap valued (c .before .before .before .before .before .before .before .before .cfa .given .1)) ∙ c .before .before .before .before .before .before .before .before .before .before .frame-cfa .ensures file (ap (λ (k : ℕ). getD file k 0) (c .before .before .before .before .before .before .before .before .before .before .before .before .before .before .sp-column .ensures .0)) (ap (λ (k : ℕ). getD file k 0) (c .before .before .before .before .before .before .before .before .before .before .before .before .before .fp-column .ensures .0))) (c .before .before .before .before .before .before .named-count .ensures)
-
-returns-2 : tie.Need-returns-2
-returns-2 c =
-    let file = now (c .before .before .before .before .before .before .before .before .before .before .before .before .before .before .before .before .before .before .args .file) in
-    subst (λ (o : Outcome (List ℕ)). InPlace file o (c .step-plain2 .result) (c .step-plain2 .last .1 .1 .1 .1 .1 .1 .1 .1 .0))
-    (word-passes _ _ _ _ file _ (sym (ap valued (c .before .before .before .before .before .before .before .before .before .cfa .given .1)) ∙ c .before .before .before .before .before .before .before .before .before .before .before .frame-cfa .ensures file (ap (λ (k : ℕ). getD file k 0) (c .before .before .before .before .before .before .before .before .before .before .before .before .before .before .before .sp-column .ensures .0)) (ap (λ (k : ℕ). getD file k 0) (c .before .before .before .before .before .before .before .before .before .before .before .before .before .before .fp-column .ensures .0)))) (c .step-plain2 .ensures)
-
 step-near-requires : tie.Need-step-near-requires
 step-near-requires c κs =
-    let x = c .before .before .before .before .before .before .before .before .before .before .before .before .before .before .before .before .before .args in
+    let x = c .before .before .before .before .before .before .before .before .before .before .before .before .before .before .before .args in
     let file = now (x .file) in (
-      subst (λ (d : ℕ). Near (now (x .section)) (x .section-base) (now (x .stack)) (x .stack-base) (c .before .before .before .before .before .before .before .before .cfa .given .0 .0) d)
-          (c .before .before .before .before .before .deepest .ensures .0)
-          (record { inStack = c .before .before .before .before .in-stack .ensures (not-false _ (c .before .before .before .if1 .left)); off = c .before .before .off-section .ensures (not-false _ (c .before .if2 .left)) }),
-      saves _ _ _ file _ _ (sym (ap valued (c .before .before .before .before .before .before .before .before .cfa .given .1)) ∙ c .before .before .before .before .before .before .before .before .before .before .frame-cfa .ensures file (ap (λ (k : ℕ). getD file k 0) (c .before .before .before .before .before .before .before .before .before .before .before .before .before .before .sp-column .ensures .0)) (ap (λ (k : ℕ). getD file k 0) (c .before .before .before .before .before .before .before .before .before .before .before .before .before .fp-column .ensures .0))) (c .before .before .before .before .before .before .named-count .ensures),
+      subst (λ (d : ℕ). Near (now (x .section)) (x .section-base) (now (x .stack)) (x .stack-base) (c .before .before .before .before .before .before .cfa .given .0 .0) d)
+          (c .before .before .before .deepest .ensures .0) (c .before .before .near .ensures (not-false _ (c .before .if1 .left)) .1),
+      saves _ _ _ file _ _ (sym (ap valued (c .before .before .before .before .before .before .cfa .given .1)) ∙ c .before .before .before .before .before .before .before .before .frame-cfa .ensures file (ap (λ (k : ℕ). getD file k 0) (c .before .before .before .before .before .before .before .before .before .before .before .before .sp-column .ensures .0)) (ap (λ (k : ℕ). getD file k 0) (c .before .before .before .before .before .before .before .before .before .before .before .fp-column .ensures .0))) (c .before .before .before .before .named-count .ensures),
     )
 
 enum-known-n : tie.Need-enum-known-n
 enum-known-n c = search needs
 
+returns-2 : tie.Need-returns-2
+returns-2 c =
+    let file = now (c .before .before .before .before .before .before .before .before .before .before .before .before .before .before .before .before .args .file) in
+    place-done _ _ _ (sym (word-passes _ _ _ _ file _ (sym (ap valued (c .before .before .before .before .before .before .before .cfa .given .1)) ∙ c .before .before .before .before .before .before .before .before .before .frame-cfa .ensures file (ap (λ (k : ℕ). getD file k 0) (c .before .before .before .before .before .before .before .before .before .before .before .before .before .sp-column .ensures .0)) (ap (λ (k : ℕ). getD file k 0) (c .before .before .before .before .before .before .before .before .before .before .before .before .fp-column .ensures .0)))) ∙ c .step-near .ensures)
+
 returns-3 : tie.Need-returns-3
 returns-3 c =
-    let file = now (c .before .before .before .before .before .before .before .before .before .before .before .before .before .before .before .before .before .before .args .file) in
-    place-done _ _ _ (sym (word-passes _ _ _ _ file _ (sym (ap valued (c .before .before .before .before .before .before .before .before .before .cfa .given .1)) ∙ c .before .before .before .before .before .before .before .before .before .before .before .frame-cfa .ensures file (ap (λ (k : ℕ). getD file k 0) (c .before .before .before .before .before .before .before .before .before .before .before .before .before .before .before .sp-column .ensures .0)) (ap (λ (k : ℕ). getD file k 0) (c .before .before .before .before .before .before .before .before .before .before .before .before .before .before .fp-column .ensures .0)))) ∙ c .step-near .ensures)
-
-returns-4 : tie.Need-returns-4
-returns-4 c =
     let file = now (c .before .before .before .before .before .before .before .before .before .before .args .file) in
     place-refused _ _ _ (sym (word-refused _ _ _ _ file _ (sym (ap valued (c .before .n .given .1)) ∙ c .before .before .before .frame-cfa .ensures file (ap (λ (k : ℕ). getD file k 0) (c .before .before .before .before .before .before .before .sp-column .ensures .0)) (ap (λ (k : ℕ). getD file k 0) (c .before .before .before .before .before .before .fp-column .ensures .0)))))
 
@@ -115,13 +98,10 @@ step-into-spec =
     enum-known-cfa
     named-count-requires
     deepest-requires
-    in-stack-requires
+    near-requires
     step-plain-requires
     returns
-    off-section-requires
-    step-plain-requires-2
-    returns-2
     step-near-requires
     enum-known-n
-    returns-3
-    returns-4)
+    returns-2
+    returns-3)

@@ -1,7 +1,8 @@
 -- Laws of `restAt` and `decode`. Assumes nothing.
 use mathlib.Core.Path.{_≡_, refl, sym}
-use Prim.Native.Nat.{ℕ, _+_, _≤_, _<_}
+use Prim.Native.Nat.{ℕ, _+_, _^_, _≤_, _<_}
 use native.Mathlib.Omega.{arith}
+use borrow.Author.Tests.{lt-ltb}
 use Rattle.failure.specs.Outcome.{Outcome, Refused, Answer, _>>=_}
 use Rattle.failure.specs.Failure.{BadEkoRecord}
 use Rattle.mem.specs.Memory.{Memory}
@@ -17,6 +18,13 @@ use Rattle.program.specs.declared.decode.Form.{Form}
 use Rattle.program.specs.declared.decode.Form.the-variants.{Whole, WithNumber, WithPair, Unknown}
 use Rattle.program.specs.Operation.{formOf, completed, Decoding, restAt, decode}
 use Rattle.leb.proofs.Numbers.{small}
+
+-- a number of one byte
+pub short-number :
+    (m : Memory) (limit pos b : ℕ) → byte.Is b ≡ byteAt m limit pos → b < 128 →
+    Answer (record { value = b; next = pos + 1 }) ≡ numbered (ulebAt m limit pos)
+unfolding ulebAt
+short-number m limit pos b e h = rw (sym e) (simp (lt-ltb b 128 h, lt-ltb b (2 ^ 32) (omega arith)))
 
 -- the slot after a register
 abbrev pub slotAt : Memory → ℕ → Read → Outcome Decoding

@@ -121,8 +121,8 @@ pub fn completed(o: One, n: u32) -> Op
     }
 }
 
-// The number at a position below the limit.
-pub fn number_at<'a>(
+// The number at a position below the limit, of any length.
+fn long_number_at<'a>(
     section: &'a [u8],
     section_base: usize,
     stack: &'a [u8],
@@ -138,6 +138,31 @@ pub fn number_at<'a>(
     match folded(uleb_from(section, section_base, stack, stack_base, pos, limit)) {
         leb::Number::Is(v, next) => Number::Is(v as u32, next),
         leb::Number::Refused(n) => Number::Refused(n),
+    }
+}
+
+// The number at a position below the limit; one byte is read at once.
+pub fn number_at<'a>(
+    section: &'a [u8],
+    section_base: usize,
+    stack: &'a [u8],
+    stack_base: usize,
+    pos: usize,
+    limit: usize,
+) -> Number
+    ensures { λ r. ⌜
+        told r ≡
+        numbered (ulebAt (lent (now (section .entry)) «section_base» (now (stack .entry)) «stack_base» .regions) limit pos)
+        ⌝ }
+{
+    match byte_from(section, section_base, stack, stack_base, pos, limit) {
+        Byte::Is(b) => {
+            if b < 0x80 {
+                return Number::Is(b as u32, pos + 1);
+            }
+            long_number_at(section, section_base, stack, stack_base, pos, limit)
+        }
+        _ => long_number_at(section, section_base, stack, stack_base, pos, limit),
     }
 }
 

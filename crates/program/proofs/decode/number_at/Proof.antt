@@ -1,49 +1,53 @@
--- `program::decode::number_at` meets its contract: a number that is read fits 32 bits. Assumes nothing.
-use mathlib.Core.Path.{sym, _∙_, ap}
+-- `program::decode::number_at` meets its contract. Assumes nothing.
+use mathlib.Core.Path.{sym, _∙_}
 use native.Mathlib.Omega.{arith}
 use borrow.Author.Needs.{needs}
-use Rattle.leb.specs.Reader as Reader
-use Rattle.leb.specs.Reader.{numbered}
-use Rattle.leb.proofs.Numbers.{small}
+use Rattle.leb.proofs.Reader.{byte-read}
+use Rattle.program.proofs.Decoding.{short-number}
 use Rattle.program.proofs.decode.number_at.Statement.{statement}
 use Rattle.program.proofs.decode.number_at.Tie as tie
 
-uleb-from-requires : tie.Need-uleb-from-requires
-uleb-from-requires c κs = search needs
+byte-from-requires : tie.Need-byte-from-requires
+byte-from-requires c κs = search needs
 
-folded-requires : tie.Need-folded-requires
-folded-requires c κs = search needs
+enum-known-b : tie.Need-enum-known-b
+enum-known-b c = search needs
 
-enum-known-v : tie.Need-enum-known-v
-enum-known-v c = search needs
+cast-t11 : tie.Need-cast-t11
+cast-t11 c = search needs
 
-cast-t13 : tie.Need-cast-t13
-cast-t13 c =
-    let at = c .before .before .before in
-    let told = sym (ap Reader.told (c .before .v .given .1)) ∙ at .folded .ensures ∙ ap numbered (at .before .uleb-from .ensures) in
-    omega (arith, small _ _ _ _ (sym told) .value)
-
-enum-known-n : tie.Need-enum-known-n
-enum-known-n c = search needs
+add-t12 : tie.Need-add-t12
+add-t12 c =
+    let at = c .before .before .before .before in
+    omega (arith, byte-read _ _ _ _ (sym (at .byte-from .ensures) ∙ c .before .before .b .given .1) .0)
 
 returns : tie.Need-returns
 returns c =
-    let at = c .before .before .before in
-    sym (ap Reader.told (c .before .v .given .1)) ∙ at .folded .ensures ∙ ap numbered (at .before .uleb-from .ensures)
+    let at = c .before .before .before .before in
+    short-number _ _ _ _ (sym (c .before .before .b .given .1) ∙ at .byte-from .ensures) (c .if1 .taken)
+
+long-number-at-requires : tie.Need-long-number-at-requires
+long-number-at-requires c κs = search needs
+
+long-number-at-requires-2 : tie.Need-long-number-at-requires-2
+long-number-at-requires-2 c κs = search needs
 
 returns-2 : tie.Need-returns-2
-returns-2 c =
-    let at = c .before .before .before in
-    sym (ap Reader.told (c .before .n .given .1)) ∙ at .folded .ensures ∙ ap numbered (at .before .uleb-from .ensures)
+returns-2 c = search needs
+
+returns-3 : tie.Need-returns-3
+returns-3 c = search needs
 
 pub number-at-spec : {M : Type 1} → statement M
 number-at-spec =
     tie.close
     (tie.spec
-    uleb-from-requires
-    folded-requires
-    enum-known-v
-    cast-t13
-    enum-known-n
+    byte-from-requires
+    enum-known-b
+    cast-t11
+    add-t12
     returns
-    returns-2)
+    long-number-at-requires
+    long-number-at-requires-2
+    returns-2
+    returns-3)

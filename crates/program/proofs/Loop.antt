@@ -26,7 +26,7 @@ use Rattle.program.specs.declared.Step.{Step}
 use Rattle.program.specs.declared.Step.the-variants as step
 use Rattle.program.specs.Operation.{Decoding, decode}
 use Rattle.program.specs.Rule.{follow}
-use Rattle.program.specs.Run.{Stand, Ran, Turn, On, Ends, Refused, act, set, recall, turned, runFrom, begin, run, maxRemember}
+use Rattle.program.specs.Run.{Stand, Ran, Turn, On, Ends, Refused, advance, remember, recall, set, act, turned, runFrom, begin, run, maxRemember}
 use Rattle.program.specs.Answers.{stepped, Room, ended, finished, stopped, through}
 use Rattle.program.proofs.Decoding.{decode-limit, decode-moves}
 use Rattle.program.proofs.Offsets.{Lower, act-lower, Within, act-within}
@@ -175,21 +175,9 @@ module _ (a : Arch) (off next : ℕ) (s : Stand) where
   unfolding act
   act-end = refl
 
-  -- an advance by so many bytes
-  module _ (n by : ℕ) (e : by ≡ n * a .unit) (low : s .at < 2 ^ 64) where
-    pub act-overflow : 2 ^ 64 - 1 - s .at < by → Refused BadEkoRecord ≡ act a off next (Advance n) s
-    unfolding act
-    act-overflow h = rw (sym e) (simp (lt-ltb (2 ^ 64 - 1) (s .at + by) (omega arith)))
-
-    module _ (fits : by ≤ 2 ^ 64 - 1 - s .at) where
-      pub act-past : off < s .at + by → Ends (record { state = s .state; after = 0 }) ≡ act a off next (Advance n) s
-      unfolding act
-      act-past h = rw (sym e) (simp (le-ltb (2 ^ 64 - 1) (s .at + by) (omega arith), lt-ltb off (s .at + by) h))
-
-      pub act-advance :
-          s .at + by ≤ off → On (record { state = s .state; remembered = s .remembered; at = s .at + by }) ≡ act a off next (Advance n) s
-      unfolding act
-      act-advance h = rw (sym e) (simp (le-ltb (2 ^ 64 - 1) (s .at + by) (omega arith), le-ltb off (s .at + by) h))
+  pub act-advance : (n : ℕ) → advance off (s .at + n * a .unit) s ≡ act a off next (Advance n) s
+  unfolding act
+  act-advance n = refl
 
   -- a rule set
   pub act-set :
@@ -202,28 +190,41 @@ module _ (a : Arch) (off next : ℕ) (s : Stand) where
   unfolding act
   act-set-refused r n e = ap (set s) e
 
-  -- a state remembered, unless there are four
-  pub act-remember-full : length (s .remembered) ≡ maxRemember → Refused RememberStackOverflow ≡ act a off next Remember s
+  -- a state remembered, and one recalled
+  pub act-remember : remember s ≡ act a off next Remember s
   unfolding act
-  act-remember-full e = simp (eq-eqb (length (s .remembered)) maxRemember e)
+  act-remember = refl
 
-  pub act-remember :
-      (length (s .remembered) ≡ maxRemember → ⊥) →
-      On (record { state = s .state; remembered = s .state ∷ s .remembered; at = s .at }) ≡ act a off next Remember s
-  unfolding act
-  act-remember e = simp (ne-eqb (length (s .remembered)) maxRemember e)
-
-  -- a state recalled, if there is one
   pub act-recall : recall (s .remembered) s ≡ act a off next Recall s
   unfolding act
   act-recall = refl
 
-  pub act-recall-none : length (s .remembered) ≡ 0 → Refused BadEkoRecord ≡ act a off next Recall s
-  act-recall-none = λ e. none (s .remembered) e ∙ act-recall
-    where
-      none : (l : List State) → length l ≡ 0 → Refused BadEkoRecord ≡ recall l s
-      none [] e = refl
-      none (st ∷ l) e = absurd (omega arith)
+-- an advance by so many bytes
+module _ (off : ℕ) (s : Stand) (by to : ℕ) (e : by ≡ to) (low : s .at < 2 ^ 64) where
+  pub advance-overflow : 2 ^ 64 - 1 - s .at < by → Refused BadEkoRecord ≡ advance off (s .at + to) s
+  advance-overflow h = rw (sym e) (simp (lt-ltb (2 ^ 64 - 1) (s .at + by) (omega arith)))
+
+  module _ (fits : by ≤ 2 ^ 64 - 1 - s .at) where
+    pub advance-past : off < s .at + by → Ends (record { state = s .state; after = 0 }) ≡ advance off (s .at + to) s
+    advance-past h = rw (sym e) (simp (le-ltb (2 ^ 64 - 1) (s .at + by) (omega arith), lt-ltb off (s .at + by) h))
+
+    pub advance-on :
+        s .at + by ≤ off → On (record { state = s .state; remembered = s .remembered; at = s .at + by }) ≡ advance off (s .at + to) s
+    advance-on h = rw (sym e) (simp (le-ltb (2 ^ 64 - 1) (s .at + by) (omega arith), le-ltb off (s .at + by) h))
+
+-- a state remembered, unless there are four
+pub remember-full : (s : Stand) → length (s .remembered) ≡ maxRemember → Refused RememberStackOverflow ≡ remember s
+remember-full s e = simp (eq-eqb (length (s .remembered)) maxRemember e)
+
+pub remember-on :
+    (s : Stand) → (length (s .remembered) ≡ maxRemember → ⊥) →
+    On (record { state = s .state; remembered = s .state ∷ s .remembered; at = s .at }) ≡ remember s
+remember-on s e = simp (ne-eqb (length (s .remembered)) maxRemember e)
+
+-- no state to recall
+pub recall-none : (s : Stand) (l : List State) → length l ≡ 0 → Refused BadEkoRecord ≡ recall l s
+recall-none s [] e = refl
+recall-none s (st ∷ l) e = absurd (omega arith)
 
 -- what an operation leaves to the loop, where the loop stands
 pub stepped-found :

@@ -1,9 +1,9 @@
 // Version 2 state programs: ps-unwind's `run` (document 01, "The state program").
-// `run` refuses with 28 first. `run_program` is for the crates above, which have tested what is lent and the architecture:
-// any architecture but 1 stands for 2 there.
+// `run` refuses with 28 first. `run_program` and `run_through` are for the crates above, which have tested what is lent and the
+// architecture: any architecture but 1 stands for 2 there.
 ghost use mathlib.Core.Path.{_≡_};
 ghost use mathlib.Core.List.{List};
-ghost use Prim.Native.Nat.{ℕ, _≤_, _-_, _^_};
+ghost use Prim.Native.Nat.{ℕ, _+_, _-_, _*_, _^_, _≤_};
 ghost use lib.ListN.{length};
 ghost use Rattle.failure.specs.Outcome.{Answer};
 ghost use Rattle.mem.specs.Memory.{lent};
@@ -281,6 +281,54 @@ fn follow<'a, 'b>(
     }
 }
 
+// An advance by so many units in a run up to an offset.
+fn advance(at: usize, n: u32, arch: u8, off: usize) -> Step
+    ensures { λ r. ⌜
+        ((st : State) (states : List State) →
+        stepped r st states at ≡
+        Run.advance off (at + n * numbers arch .unit) (record { state = st; remembered = states; at = at }))
+        × ((depth : ℕ) → Room r depth)
+        ⌝ }
+{
+    let a = numbers(arch);
+    let by = n as usize * a.unit;
+    if usize::MAX - at < by {
+        return Step::Refused(BAD_EKO_RECORD);
+    }
+    if off < at + by {
+        return Step::Ends(0);
+    }
+    Step::At(at + by)
+}
+
+// One more state to remember, beside so many.
+fn remember(depth: usize) -> Step
+    ensures { λ r. ⌜
+        ((st : State) (states : List State) (at : ℕ) → length states ≡ depth →
+        stepped r st states at ≡ Run.remember (record { state = st; remembered = states; at = at }))
+        × Room r depth
+        ⌝ }
+{
+    if depth == MAX_REMEMBER {
+        return Step::Refused(REMEMBER_STACK_OVERFLOW);
+    }
+    Step::Remember
+}
+
+// The last of so many remembered states to recall.
+fn recall(depth: usize) -> Step
+    ensures { λ r. ⌜
+        ((st : State) (states : List State) (at : ℕ) → length states ≡ depth →
+        stepped r st states at ≡ Run.recall states (record { state = st; remembered = states; at = at }))
+        × Room r depth
+        ⌝ }
+{
+    if depth == 0 {
+        return Step::Refused(BAD_EKO_RECORD);
+    }
+    Step::Recall
+}
+
 // An operation, with the address after it, in a run up to an offset. What is remembered is left to the loop.
 fn act<'a, 'b>(
     regs: &'a mut [u16; 32],
@@ -310,32 +358,12 @@ fn act<'a, 'b>(
             units,
             count,
         },
-        Op::Advance(n) => {
-            let a = numbers(arch);
-            let by = n as usize * a.unit;
-            if usize::MAX - at < by {
-                return Acted {
-                    step: Step::Refused(BAD_EKO_RECORD),
-                    fp,
-                    units,
-                    count,
-                };
-            }
-            if off < at + by {
-                return Acted {
-                    step: Step::Ends(0),
-                    fp,
-                    units,
-                    count,
-                };
-            }
-            Acted {
-                step: Step::At(at + by),
-                fp,
-                units,
-                count,
-            }
-        }
+        Op::Advance(n) => Acted {
+            step: advance(at, n, arch, off),
+            fp,
+            units,
+            count,
+        },
         Op::Set(rule) => {
             let followed = follow(regs, slots, count, fp, units, arch, rule);
             let status = followed.status;
@@ -354,38 +382,18 @@ fn act<'a, 'b>(
                 },
             }
         }
-        Op::Remember => {
-            if depth == MAX_REMEMBER {
-                return Acted {
-                    step: Step::Refused(REMEMBER_STACK_OVERFLOW),
-                    fp,
-                    units,
-                    count,
-                };
-            }
-            Acted {
-                step: Step::Remember,
-                fp,
-                units,
-                count,
-            }
-        }
-        Op::Recall => {
-            if depth == 0 {
-                return Acted {
-                    step: Step::Refused(BAD_EKO_RECORD),
-                    fp,
-                    units,
-                    count,
-                };
-            }
-            Acted {
-                step: Step::Recall,
-                fp,
-                units,
-                count,
-            }
-        }
+        Op::Remember => Acted {
+            step: remember(depth),
+            fp,
+            units,
+            count,
+        },
+        Op::Recall => Acted {
+            step: recall(depth),
+            fp,
+            units,
+            count,
+        },
     }
 }
 

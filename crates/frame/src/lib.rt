@@ -1,6 +1,7 @@
 // The caller's registers: from an unwind state (ps-unwind's `apply`) and from a version 1 frame word (its `step`).
-// `apply` and `step` refuse with 28 first. `apply_state` and `step_frame` are for the crates above, which have tested what is
-// lent, the architecture and the count: there any architecture but 1 stands for 2, and a state has no pair past its arrays.
+// `apply` and `step` refuse with 28 first. `apply_into` and `step_into`, which change a file in place, `apply_state` and
+// `step_frame` are for the crates above, which have tested what is lent, the architecture and the count: there any architecture
+// but 1 stands for 2, and a state has no pair past its arrays.
 ghost use mathlib.Core.Path.{_≡_};
 ghost use mathlib.Core.List.{List};
 ghost use mathlib.Core.Logic.{_⊎_};
@@ -965,6 +966,52 @@ fn set_frame<'a>(
     }
 }
 
+// The return address is read, from memory or the register that held it, then file becomes the caller's.
+fn set_caller<'a>(
+    section: &'a [u8],
+    section_base: usize,
+    stack: &'a [u8],
+    stack_base: usize,
+    arch: u8,
+    cfa: usize,
+    frame: u32,
+    held: usize,
+    file: &mut [usize; COLUMNS],
+) -> Status
+    ensures { λ r. ⌜
+        ((whole : List ℕ) → Outcome.Answer held ≡ File.get (Arch.numbers arch) whole (Arch.numbers arch .ra) →
+        Partly
+        (Step.setCaller (Arch.numbers arch)
+        (lent (now (section .entry)) «section_base» (now (stack .entry)) «stack_base» .regions)
+        frame cfa whole (now (file .entry)))
+        r (now (file .exit)))
+        ⌝ }
+{
+    match return_address(
+        section,
+        section_base,
+        stack,
+        stack_base,
+        arch,
+        cfa,
+        frame,
+        held,
+    ) {
+        Value::Is(ra) => set_frame(
+            section,
+            section_base,
+            stack,
+            stack_base,
+            arch,
+            cfa,
+            frame,
+            ra,
+            file,
+        ),
+        Value::Refused(x) => Status::Refused(x),
+    }
+}
+
 // Past the tests, anywhere: the caller's registers in a copy, which becomes the file if nothing is refused.
 fn step_plain<'a>(
     section: &'a [u8],
@@ -1000,7 +1047,7 @@ fn step_plain<'a>(
         n,
         &mut copy,
     ) {
-        Status::Done => match return_address(
+        Status::Done => match set_caller(
             section,
             section_base,
             stack,
@@ -1009,25 +1056,13 @@ fn step_plain<'a>(
             cfa,
             frame,
             held,
+            &mut copy,
         ) {
-            Value::Is(ra) => match set_frame(
-                section,
-                section_base,
-                stack,
-                stack_base,
-                arch,
-                cfa,
-                frame,
-                ra,
-                &mut copy,
-            ) {
-                Status::Done => {
-                    *file = copy;
-                    Status::Done
-                }
-                Status::Refused(x) => Status::Refused(x),
-            },
-            Value::Refused(y) => Status::Refused(y),
+            Status::Done => {
+                *file = copy;
+                Status::Done
+            }
+            Status::Refused(y) => Status::Refused(y),
         },
         Status::Refused(z) => Status::Refused(z),
     }

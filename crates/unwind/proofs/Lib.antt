@@ -6,4 +6,5 @@ pub mod Searching
 pub mod Throwing
 pub mod CleanupPhase
 pub mod Calls
+pub mod Batching
 pub mod Told

@@ -129,19 +129,18 @@ pub stays-refused : (f : Frame) (o : Outcome Step) (n : ℕ) → Outcome.Refused
 stays-refused f o n e = ap (stepped f) e
 
 -- a frame whose step is neither an end nor refused has a record, and fewer than 1,024 came before it
-pub seen-below : (arch : ℕ) (m : Memory) (f : Frame) (x : Seen) → Answer x ≡ seen arch m f → (x ≡ End → ⊥) → f .number < 1024
-unfolding seen
-seen-below arch m f x e h = go (recordIn arch m f) refl
+pub step-below : {A : Type 0} (arch : ℕ) (m : Memory) (f : Frame) (k : Step → Outcome A) (x : A) → Answer x ≡ (frameStep arch m f >>= k) →
+    (Answer x ≡ k Walk.End → ⊥) → f .number < 1024
+step-below {A = A} arch m f k x e h = go (recordIn arch m f) refl
   where
     go : (o : Outcome (Option Record)) → o ≡ recordIn arch m f → f .number < 1024
     go (Outcome.Refused n) p =
-        let s : Answer x ≡ Outcome.Refused n =
-        e ∙ sym (ap (λ (y : Outcome Step). y >>= seenAt arch m f) (step-by-record arch m f (Outcome.Refused n) p)) in
+        let s : Answer x ≡ Outcome.Refused n = e ∙ sym (ap (λ (y : Outcome Step). y >>= k) (step-by-record arch m f (Outcome.Refused n) p)) in
         let z : _≡_ {A = ℕ} 0 1 = cc in
         absurd (omega arith)
-    go (Answer none) p =
-        let s : Answer x ≡ Answer End =
-        e ∙ sym (ap (λ (y : Outcome Step). y >>= seenAt arch m f) (step-by-record arch m f (Answer none) p)) in
-        let q : x ≡ End = cc in
-        absurd (h q)
+    go (Answer none) p = absurd (h (e ∙ sym (ap (λ (y : Outcome Step). y >>= k) (step-by-record arch m f (Answer none) p))))
     go (Answer (some r)) p = record-bounds _ _ _ _ _ _ r p .1
+
+pub seen-below : (arch : ℕ) (m : Memory) (f : Frame) (x : Seen) → Answer x ≡ seen arch m f → (x ≡ End → ⊥) → f .number < 1024
+unfolding seen
+seen-below arch m f x e h = step-below arch m f (seenAt arch m f) x e (λ (q : Answer x ≡ Answer End). let z : x ≡ End = cc in h z)

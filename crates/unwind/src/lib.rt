@@ -23,6 +23,7 @@ ghost use Rattle.model.specs.Cleanup as Cleanup;
 ghost use Rattle.model.specs.Unwinding as Spec;
 ghost use Rattle.model.specs.Call.{Promised};
 ghost use Rattle.unwind.specs.Answers.{frameWith, frameAt, staying, stepped, searched, raisedBy, unmoved, resumedBy, cleaned, callNumber, unwoundBy};
+ghost use Rattle.unwind.specs.Batches.{givenAs, given, noFrames, walkFrom, walkedBy, walking};
 ghost use Rattle.unwind.specs.Turns.{fileTold, callerByRun, advanced, passed, recordOf, located, metRow, rowPast, meeting, seen, Follows, SearchTurn, cleanRow, cleanMet};
 use arch::COLUMNS;
 use arch::DATA_REG0;
@@ -61,6 +62,9 @@ use state::State;
 // The most frames that a walk gives.
 pub const MAX_FRAMES: usize = 1024;
 
+// The most frames that one call of walk gives.
+pub const BATCH_FRAMES: usize = 16;
+
 // What a frame step comes to: the walk ends, or it is past the frame with this record, or a refusal.
 pub enum Walked {
     End,
@@ -71,6 +75,31 @@ pub enum Walked {
 // A frame step: past the frame its caller's number and file; else the frame's own.
 pub struct Stepped {
     pub answer: Walked,
+    pub number: usize,
+    pub interrupted: bool,
+    pub regs: Regs,
+}
+
+// Frames of a walk, the innermost first: the start of each one's record, its pc and its sp. What stands past the count is 0.
+#[repr(C)]
+pub struct Frames {
+    pub count: usize,
+    pub starts: [usize; 16],
+    pub pcs: [usize; 16],
+    pub sps: [usize; 16],
+}
+
+// How a call of walk comes to its end: there may be more frames, the walk ends, or a refusal.
+pub enum WalkAnswer {
+    More,
+    End,
+    Refused(u32),
+}
+
+// Up to 16 frames of a walk. If there may be more, the frame that the walk goes on from; else the one that came in.
+pub struct Batch {
+    pub answer: WalkAnswer,
+    pub frames: Frames,
     pub number: usize,
     pub interrupted: bool,
     pub regs: Regs,
@@ -115,6 +144,13 @@ pub struct Unwound {
 enum Located {
     End,
     At(Record),
+    Refused(u32),
+}
+
+// A frame of a walk: the walk ends; it is past the frame, whose record has this start; or a refusal.
+enum Given {
+    End,
+    Frame(usize),
     Refused(u32),
 }
 
@@ -691,6 +727,178 @@ pub fn next_frame<'a>(
         return stayed(Walked::Refused(BAD_OPENING), number, interrupted, regs);
     }
     step_from(
+        section,
+        section_base,
+        stack,
+        stack_base,
+        arch,
+        number,
+        interrupted,
+        regs,
+    )
+}
+
+// Many frames at once.
+
+// A frame of a walk.
+fn pass<'a>(
+    section: &'a [u8],
+    section_base: usize,
+    stack: &'a [u8],
+    stack_base: usize,
+    arch: u8,
+    number: usize,
+    interrupted: bool,
+    file: &mut [usize; COLUMNS],
+) -> Given
+    ensures { λ r. ⌜
+        givenAs (frameWith number interrupted (now (file .entry))) (now (file .exit)) r ≡
+        given arch
+        (lent (now (section .entry)) «section_base» (now (stack .entry)) «stack_base» .regions)
+        (frameWith number interrupted (now (file .entry)))
+        ⌝ }
+{
+    let pc = file[PC_COLUMN];
+    match locate(section, section_base, arch, number, interrupted, pc) {
+        Located::End => Given::End,
+        Located::At(record) => match past(
+            section,
+            section_base,
+            stack,
+            stack_base,
+            arch,
+            number,
+            interrupted,
+            record,
+            looked_up(interrupted, pc),
+            file,
+        ) {
+            Status::Done => Given::Frame(record.start),
+            Status::Refused(n) => Given::Refused(n),
+        },
+        Located::Refused(n) => Given::Refused(n),
+    }
+}
+
+// Up to 16 frames, for any architecture number.
+fn walk_from<'a>(
+    section: &'a [u8],
+    section_base: usize,
+    stack: &'a [u8],
+    stack_base: usize,
+    arch: u8,
+    number: usize,
+    interrupted: bool,
+    regs: Regs,
+) -> Batch
+    ensures { λ r. ⌜
+        r ≡ walkedBy (frameAt number interrupted regs)
+        (walkFrom 16 arch
+        (lent (now (section .entry)) «section_base» (now (stack .entry)) «stack_base» .regions)
+        (frameAt number interrupted regs) noFrames)
+        ⌝ }
+{
+    let k = sp_column(arch);
+    let mut starts = [0; 16];
+    let mut pcs = [0; 16];
+    let mut sps = [0; 16];
+    let mut file = regs.r;
+    let mut at = number;
+    let mut first = interrupted;
+    let mut count = 0;
+    while count < BATCH_FRAMES {
+        let pc = file[PC_COLUMN];
+        let sp = file[k];
+        match pass(
+            section,
+            section_base,
+            stack,
+            stack_base,
+            arch,
+            at,
+            first,
+            &mut file,
+        ) {
+            Given::Frame(start) => {
+                starts[count] = start;
+                pcs[count] = pc;
+                sps[count] = sp;
+                at += 1;
+                first = false;
+            }
+            Given::End => return Batch {
+                answer: WalkAnswer::End,
+                frames: Frames {
+                    count,
+                    starts,
+                    pcs,
+                    sps,
+                },
+                number,
+                interrupted,
+                regs,
+            },
+            Given::Refused(n) => return Batch {
+                answer: WalkAnswer::Refused(n),
+                frames: Frames {
+                    count,
+                    starts,
+                    pcs,
+                    sps,
+                },
+                number,
+                interrupted,
+                regs,
+            },
+        }
+        count += 1;
+    }
+    Batch {
+        answer: WalkAnswer::More,
+        frames: Frames {
+            count,
+            starts,
+            pcs,
+            sps,
+        },
+        number: at,
+        interrupted: first,
+        regs: Regs { r: file },
+    }
+}
+
+// Up to 16 frames of a walk, in what is lent.
+pub fn walk<'a>(
+    section: &'a [u8],
+    section_base: usize,
+    stack: &'a [u8],
+    stack_base: usize,
+    arch: u8,
+    number: usize,
+    interrupted: bool,
+    regs: Regs,
+) -> Batch
+    ensures { λ r. ⌜
+        r ≡ walkedBy (frameAt number interrupted regs)
+        (walking (lent (now (section .entry)) «section_base» (now (stack .entry)) «stack_base»)
+        arch (frameAt number interrupted regs))
+        ⌝ }
+{
+    if !accepted(section, section_base, stack, stack_base, arch) {
+        return Batch {
+            answer: WalkAnswer::Refused(BAD_OPENING),
+            frames: Frames {
+                count: 0,
+                starts: [0; 16],
+                pcs: [0; 16],
+                sps: [0; 16],
+            },
+            number,
+            interrupted,
+            regs,
+        };
+    }
+    walk_from(
         section,
         section_base,
         stack,

@@ -102,16 +102,20 @@ impl Case {
         landings
     }
 
+    /// The frames come up to 16 at a time.
     fn walk(&self, i: usize) -> Place {
         let stack = bytes(&self.stacks[i].0);
         let (mut regs, mut number, mut frames) = (self.files[i], 0, (0, 0, 0));
         loop {
-            let next = lend!(eko_next_frame, &self.section, stack, X86_64, number, false, regs);
+            let next = lend!(eko_walk, &self.section, stack, X86_64, number, false, regs);
+            let given = &next.frames;
+            for k in 0..given.count {
+                frames = told(frames, (number + k, given.pcs[k], given.sps[k]));
+            }
             if next.status != ANSWERED {
                 assert_eq!(next.status, NONE);
                 return frames;
             }
-            frames = told(frames, (number, regs.r[PC_COLUMN], regs.r[7]));
             (regs, number) = (next.regs, next.number);
         }
     }

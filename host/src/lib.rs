@@ -341,7 +341,7 @@ macro_rules! lend {
 
 mod capture;
 mod unwinding;
-pub use unwinding::{Frame, Raised, Resumed, Unwinding};
+pub use unwinding::{Frame, Place, Raised, Resumed, Unwinding};
 
 impl Memory<'_> {
     /// The record of the function that pc lies in.

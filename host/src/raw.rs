@@ -64,6 +64,23 @@ pub struct Stepped {
 }
 
 #[repr(C)]
+pub struct Frames {
+    pub count: usize,
+    pub starts: [usize; 16],
+    pub pcs: [usize; 16],
+    pub sps: [usize; 16],
+}
+
+#[repr(C)]
+pub struct Batch {
+    pub status: u32,
+    pub frames: Frames,
+    pub number: usize,
+    pub interrupted: bool,
+    pub regs: Regs,
+}
+
+#[repr(C)]
 pub struct Raised {
     pub status: u32,
     pub reason: u32,
@@ -137,6 +154,11 @@ unsafe extern "C" {
         stack: *const u8, stack_len: usize, stack_base: usize,
         arch: u8, number: usize, interrupted: bool, regs: Regs,
     ) -> Stepped;
+    pub fn eko_walk(
+        section: *const u8, section_len: usize, section_base: usize,
+        stack: *const u8, stack_len: usize, stack_base: usize,
+        arch: u8, number: usize, interrupted: bool, regs: Regs,
+    ) -> Batch;
     pub fn eko_raise(
         section: *const u8, section_len: usize, section_base: usize,
         stack: *const u8, stack_len: usize, stack_base: usize,

@@ -1,6 +1,17 @@
 //! The walk, and the two phases of a throw.
 use crate::{Arch, Failure, Memory, Reason, Record, Regs, answered, optional, raw};
 
+/// Where a frame of a walk stands: the start of its record, its pc and its sp.
+#[derive(Clone, Copy, PartialEq, Eq, Debug)]
+pub struct Place {
+    /// The start of the function.
+    pub start: usize,
+    /// Where it was left.
+    pub pc: usize,
+    /// Its stack pointer.
+    pub sp: usize,
+}
+
 /// A frame of a walk: its number, counted from 0, the innermost; whether it was interrupted; its registers.
 #[derive(Clone, Copy, PartialEq, Eq, Debug)]
 pub struct Frame {
@@ -82,6 +93,21 @@ impl Memory<'_> {
     pub fn next_frame(self, arch: Arch, frame: Frame) -> Result<Option<(Record, Frame)>, Failure> {
         let a = lend!(self, eko_next_frame, arch as u8, frame.number, frame.interrupted, frame.regs);
         optional(a.status, (a.function, Frame { number: a.number, interrupted: a.interrupted, regs: a.regs }))
+    }
+
+    /// The frames of a walk from a frame on, the innermost first, and how it came to its end. What was given before a refusal stays.
+    pub fn walk(self, arch: Arch, mut frame: Frame) -> (Vec<Place>, Result<(), Failure>) {
+        let mut places = Vec::new();
+        loop {
+            let a = lend!(self, eko_walk, arch as u8, frame.number, frame.interrupted, frame.regs);
+            let f = &a.frames;
+            places.extend((0..f.count).map(|i| Place { start: f.starts[i], pc: f.pcs[i], sp: f.sps[i] }));
+            frame = Frame { number: a.number, interrupted: a.interrupted, regs: a.regs };
+            match optional(a.status, ()) {
+                Ok(Some(())) => {}
+                end => return (places, end.map(|_| ())),
+            }
+        }
     }
 
     /// A throw: the search phase from frame 0, which has these registers and this pc. The unwinding goes to [`Memory::resume`];

@@ -1,5 +1,5 @@
 //! Walks and throws through the static library, for x86-64.
-use morthwyga::{Arch, Failure, Frame, Memory, PC_COLUMN, Raised, Regs, Resumed, Unwinding};
+use morthwyga::{Arch, Failure, Frame, Memory, PC_COLUMN, Place, Raised, Regs, Resumed, Unwinding};
 
 const ARCH: Arch = Arch::X86_64;
 const SECTION: usize = 0x1000;
@@ -73,6 +73,27 @@ fn a_walk_gives_every_frame() {
         frame = caller;
     }
     assert_eq!(memory.next_frame(ARCH, frame), Ok(None));
+}
+
+#[test]
+fn a_walk_at_once_gives_the_frames_that_single_steps_give() {
+    for depth in [1, 15, 16, 17, 40] {
+        let functions = vec![PLAIN; depth];
+        let returns: Vec<_> = (1..depth).map(ret).chain([0]).collect();
+        let (section, stack) = (section(&functions), stack(&returns));
+        let memory = lend(&section, &stack);
+        let mut file = regs(STACK);
+        file.r[PC_COLUMN] = ret(0);
+        let first = Frame { number: 0, interrupted: false, regs: file };
+        let (places, end) = memory.walk(ARCH, first);
+        assert_eq!((places.len(), end), (depth, Ok(())));
+        let mut frame = first;
+        for place in places {
+            let (record, caller) = memory.next_frame(ARCH, frame).unwrap().unwrap();
+            assert_eq!(place, Place { start: record.start, pc: frame.regs.pc(), sp: frame.regs.r[7] });
+            frame = caller;
+        }
+    }
 }
 
 #[test]

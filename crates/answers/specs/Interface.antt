@@ -27,6 +27,9 @@ use Rattle.model.specs.declared.Unwinding.{Unwinding}
 use Rattle.unwind.specs.declared.Walked.{Walked}
 use Rattle.unwind.specs.declared.Walked.the-variants as walked
 use Rattle.unwind.specs.declared.Stepped as unwind-step
+use Rattle.unwind.specs.declared.WalkAnswer.{WalkAnswer}
+use Rattle.unwind.specs.declared.WalkAnswer.the-variants as walk
+use Rattle.unwind.specs.declared.Batch as unwind-batch
 use Rattle.unwind.specs.declared.RaiseAnswer.{RaiseAnswer}
 use Rattle.unwind.specs.declared.RaiseAnswer.the-variants as raise
 use Rattle.unwind.specs.declared.Raised as unwind-raise
@@ -48,6 +51,7 @@ use Rattle.answers.specs.declared.Ended.{Ended}
 use Rattle.answers.specs.declared.Landing.{Landing}
 use Rattle.answers.specs.declared.Decided.{Decided}
 use Rattle.answers.specs.declared.Stepped.{Stepped}
+use Rattle.answers.specs.declared.Batch.{Batch}
 use Rattle.answers.specs.declared.Raised.{Raised}
 use Rattle.answers.specs.declared.Resumed.{Resumed}
 
@@ -142,6 +146,17 @@ steppedBy number interrupted regs (walked.Refused n) = unstepped n number interr
 
 abbrev pub stepped : unwind-step.Stepped → Stepped
 stepped s = steppedBy (s .number) (s .interrupted) (s .regs) (s .answer)
+
+-- the status of a walk: an answer where there may be more frames, none at its end
+abbrev pub walkStatus : WalkAnswer → ℕ
+walkStatus walk.More = 0
+walkStatus walk.End = 1
+walkStatus (walk.Refused n) = n
+
+-- frames of a walk
+abbrev pub batch : unwind-batch.Batch → Batch
+batch b =
+    record { status = walkStatus (b .answer); frames = b .frames; number = b .number; interrupted = b .interrupted; regs = b .regs }
 
 -- a throw, by its answer: reason 6 with the chosen frame's number and sp, 3 or 5
 abbrev pub raisedBy : Unwinding → RaiseAnswer → Raised

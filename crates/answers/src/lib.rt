@@ -24,8 +24,10 @@ use personality::URC_INSTALL_CONTEXT;
 use rows::Row;
 use state::Slot;
 use state::State;
+use unwind::Frames;
 use unwind::RaiseAnswer;
 use unwind::ResumeAnswer;
+use unwind::WalkAnswer;
 use unwind::Walked;
 
 // The status of an answer with values, and of none.
@@ -101,6 +103,17 @@ pub struct Decided {
 pub struct Stepped {
     pub status: u32,
     pub function: Record,
+    pub number: usize,
+    pub interrupted: bool,
+    pub regs: Regs,
+}
+
+// Up to 16 frames of a walk, and the frame that it goes on from; at the end, which is told as none, and for a refusal the frame
+// that came in.
+#[repr(C)]
+pub struct Batch {
+    pub status: u32,
+    pub frames: Frames,
     pub number: usize,
     pub interrupted: bool,
     pub regs: Regs,
@@ -375,6 +388,33 @@ pub fn to_stepped(s: unwind::Stepped) -> Stepped
         },
         Walked::End => unstepped(NONE, s.number, s.interrupted, regs),
         Walked::Refused(n) => unstepped(n, s.number, s.interrupted, regs),
+    }
+}
+
+// The status of a walk.
+fn walk_status(answer: WalkAnswer) -> u32
+    ensures { λ r. ⌜ r ≡ Interface.walkStatus answer ⌝ }
+{
+    match answer {
+        WalkAnswer::More => ANSWERED,
+        WalkAnswer::End => NONE,
+        WalkAnswer::Refused(n) => n,
+    }
+}
+
+// Frames of a walk.
+pub fn to_batch(b: unwind::Batch) -> Batch
+    ensures { λ r. ⌜ r ≡ Interface.batch b ⌝ }
+{
+    let frames = b.frames;
+    let regs = b.regs;
+    let answer = b.answer;
+    Batch {
+        status: walk_status(answer),
+        frames,
+        number: b.number,
+        interrupted: b.interrupted,
+        regs,
     }
 }
 

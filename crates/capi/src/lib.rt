@@ -21,7 +21,9 @@ ghost use Rattle.personality.specs.Answers as PersonalityAnswers;
 ghost use Rattle.model.specs.Unwinding as Spec;
 ghost use Rattle.unwind.specs.Answers as UnwindAnswers;
 ghost use Rattle.unwind.specs.Answers.{frameAt};
+ghost use Rattle.unwind.specs.Batches as Batches;
 ghost use Rattle.answers.specs.Interface as Interface;
+use answers::Batch;
 use answers::Changed;
 use answers::Decided;
 use answers::Ended;
@@ -33,6 +35,7 @@ use answers::Raised;
 use answers::Read;
 use answers::Resumed;
 use answers::Stepped;
+use answers::to_batch;
 use answers::to_changed;
 use answers::to_decided;
 use answers::to_ended;
@@ -339,6 +342,36 @@ pub extern "C" fn eko_next_frame<'a>(
         ⌝ }
 {
     to_stepped(unwind::next_frame(
+        section,
+        section_base,
+        stack,
+        stack_base,
+        arch,
+        number,
+        interrupted,
+        regs,
+    ))
+}
+
+// Up to 16 frames of a walk.
+#[no_mangle]
+pub extern "C" fn eko_walk<'a>(
+    section: &'a [u8],
+    section_base: usize,
+    stack: &'a [u8],
+    stack_base: usize,
+    arch: u8,
+    number: usize,
+    interrupted: bool,
+    regs: Regs,
+) -> Batch
+    ensures { λ r. ⌜
+        r ≡ Interface.batch (Batches.walkedBy (frameAt number interrupted regs)
+        (Batches.walking (lent (now (section .entry)) «section_base» (now (stack .entry)) «stack_base») arch
+        (frameAt number interrupted regs)))
+        ⌝ }
+{
+    to_batch(unwind::walk(
         section,
         section_base,
         stack,

@@ -166,18 +166,10 @@ fn strip(arch: Arch, args: &mut Args) -> Answer {
 fn walk(arch: Arch, memory: Memory, args: &mut Args) -> Answer {
     let (interrupted, regs) = (args.flag()?, args.regs(arch)?);
     args.end()?;
-    let mut frame = Frame { number: 0, interrupted, regs };
-    let mut text = "walk".to_string();
-    loop {
-        match memory.next_frame(arch, frame) {
-            Ok(Some((record, caller))) => {
-                text += &format!(" {}:{}:{}", record.start, frame.regs.pc(), frame.regs.sp(arch)?);
-                frame = caller;
-            }
-            Ok(None) => return Ok(text + " end"),
-            Err(failure) => return Ok(format!("{text} {}", failure_text(failure))),
-        }
-    }
+    let (places, end) = memory.walk(arch, Frame { number: 0, interrupted, regs });
+    let frames: String = places.iter().map(|p| format!(" {}:{}:{}", p.start, p.pc, p.sp)).collect();
+    let end = end.map_or_else(failure_text, |()| "end".to_string());
+    Ok(format!("walk{frames} {end}"))
 }
 
 /// EXC INTERRUPTED CALLS REGS

@@ -1,71 +1,57 @@
--- The columns of the saved registers. Assumes nothing.
-use mathlib.Core.Path.{_≡_, refl, sym, subst}
+-- Every register of a SAVED table has a column. Assumes nothing.
+use mathlib.Core.Path.{_≡_, refl, sym, _∙_, ap, subst}
 use mathlib.Core.List.{List, [], _∷_}
-use Prim.Native.Nat.{ℕ, zero, suc, _+_, _≤_, _<_}
+use Prim.Native.Nat.{ℕ, zero, suc, _<_}
 use native.Mathlib.Omega.{arith}
-use lib.Dec.{eqb, ltb, lit<}
+use lib.Dec.{lit<}
 use lib.ListN.{length, getD}
-use borrow.Author.Tests.{lt-ltb, le-ltb, eq-eqb, ne-eqb}
-use Rattle.failure.specs.Choice.{if_then_else_}
-use Rattle.failure.specs.Outcome.{Answer}
-use Rattle.arch.specs.Arch.{Arch, aarch64, x86-64}
+use Rattle.failure.specs.Outcome.{Refused, Answer}
+use Rattle.failure.specs.Failure.{UnknownRegister}
+use Rattle.arch.specs.Arch.{Arch, aarch64, x86-64, numbers}
 use Rattle.arch.specs.File.{columns, columnOf}
+use Rattle.arch.specs.Answers.{columned}
+use Rattle.arch.specs.declared.Column.{Column}
+use Rattle.arch.specs.declared.Column.the-variants.{At, Unknown}
+use Rattle.arch.proofs.Arch.{of-both}
 
--- the registers' columns are those that f gives from place k on
-abbrev Each : Arch → (ℕ → ℕ) → ℕ → List ℕ → Type 0
-Each a f k [] = Unit
-Each a f k (reg ∷ regs) = (columnOf a reg ≡ Answer (f k)) × (f k < columns) × Each a f (suc k) regs
+-- a register has a column
+abbrev pub HasColumn : Arch → ℕ → Type 0
+HasColumn a reg = (k : ℕ) × (columnOf a reg ≡ Answer k) × (k < columns)
 
-each-at :
-    (a : Arch) (f : ℕ → ℕ) (k : ℕ) (regs : List ℕ) → Each a f k regs → (i : ℕ) → i < length regs →
-    (Answer (f (k + i)) ≡ columnOf a (getD regs i 0)) × (f (k + i) < columns)
-each-at a f k [] e i h = absurd (omega arith)
-each-at a f k (reg ∷ regs) e zero h =
-    let z : k ≡ k + 0 = omega arith in
-    subst (λ (j : ℕ). (Answer (f j) ≡ columnOf a reg) × (f j < columns)) z (sym (e .0), e .1)
-each-at a f k (reg ∷ regs) e (suc i) h =
-    let z : suc k + i ≡ k + suc i = omega arith in
-    subst (λ (j : ℕ). (Answer (f j) ≡ columnOf a (getD regs i 0)) × (f j < columns)) z
-    (each-at a f (suc k) regs (e .2) i (omega arith))
+-- each of these registers has one
+abbrev Each : Arch → List ℕ → Type 0
+Each a [] = Unit
+Each a (reg ∷ regs) = HasColumn a reg × Each a regs
 
--- bits 0 to 9 name registers 19 to 28, the others 72 to 79, which stand from column 32 on
-abbrev column-aarch64 : ℕ → ℕ
-column-aarch64 i = if ltb i 10 then 19 + i else 22 + i
+each-at : (a : Arch) (regs : List ℕ) → Each a regs → (i : ℕ) → i < length regs → HasColumn a (getD regs i 0)
+each-at a [] e i h = absurd (omega arith)
+each-at a (reg ∷ regs) e zero h = e .0
+each-at a (reg ∷ regs) e (suc i) h = each-at a regs (e .1) i (omega arith)
 
-columns-aarch64 :
-    (i : ℕ) → i < 18 →
-    (Answer (column-aarch64 i) ≡ columnOf aarch64 (getD (aarch64 .saved) i 0)) × (column-aarch64 i < columns)
+-- those of aarch64 and of x86-64
+saved-each : (n : ℕ) → Each (numbers n) (numbers n .saved)
 unfolding columnOf
-columns-aarch64 i h =
-    let z : 0 + i ≡ i = omega arith in
-    subst (λ (j : ℕ). (Answer (column-aarch64 j) ≡ columnOf aarch64 (getD (aarch64 .saved) i 0)) × (column-aarch64 j < columns)) z
-    (each-at aarch64 column-aarch64 0 (aarch64 .saved)
-    (refl, lit< tt, (refl, lit< tt, (refl, lit< tt, (refl, lit< tt, (refl, lit< tt, (refl, lit< tt, (refl, lit< tt, (refl, lit< tt, (refl, lit< tt, (refl, lit< tt, (refl, lit< tt, (refl, lit< tt, (refl, lit< tt, (refl, lit< tt, (refl, lit< tt, (refl, lit< tt, (refl, lit< tt, (refl, lit< tt, tt))))))))))))))))))
-    i h)
+saved-each n =
+    of-both (λ (a : Arch). Each a (a .saved))
+    ((19, refl, lit< tt), ((20, refl, lit< tt), ((21, refl, lit< tt), ((22, refl, lit< tt), ((23, refl, lit< tt), ((24, refl, lit< tt), ((25, refl, lit< tt), ((26, refl, lit< tt), ((27, refl, lit< tt), ((28, refl, lit< tt), ((32, refl, lit< tt), ((33, refl, lit< tt), ((34, refl, lit< tt), ((35, refl, lit< tt), ((36, refl, lit< tt), ((37, refl, lit< tt), ((38, refl, lit< tt), ((39, refl, lit< tt), tt))))))))))))))))))
+    ((3, refl, lit< tt), ((12, refl, lit< tt), ((13, refl, lit< tt), ((14, refl, lit< tt), ((15, refl, lit< tt), tt)))))
+    n
 
--- bit 0 names register 3, the others 12 to 15
-abbrev column-x86-64 : ℕ → ℕ
-column-x86-64 i = if eqb i 0 then 3 else 11 + i
+pub saved-known : (n bit : ℕ) → bit < length (numbers n .saved) → HasColumn (numbers n) (getD (numbers n .saved) bit 0)
+saved-known n bit h = each-at (numbers n) (numbers n .saved) (saved-each n) bit h
 
-columns-x86-64 :
-    (i : ℕ) → i < 5 → (Answer (column-x86-64 i) ≡ columnOf x86-64 (getD (x86-64 .saved) i 0)) × (column-x86-64 i < columns)
-unfolding columnOf
-columns-x86-64 i h =
-    let z : 0 + i ≡ i = omega arith in
-    subst (λ (j : ℕ). (Answer (column-x86-64 j) ≡ columnOf x86-64 (getD (x86-64 .saved) i 0)) × (column-x86-64 j < columns)) z
-    (each-at x86-64 column-x86-64 0 (x86-64 .saved) (refl, lit< tt, (refl, lit< tt, (refl, lit< tt, (refl, lit< tt, (refl, lit< tt, tt))))) i h)
+module _ (a : Arch) (reg : ℕ) (h : HasColumn a reg) (given : ℕ) (e : given ≡ reg) (c : Column) (q : columned c ≡ columnOf a given) where
+  -- the column that the code found
+  pub column-told : (k : ℕ) → c ≡ At k → (Answer k ≡ columnOf a reg) × (k < columns)
+  column-told k p =
+      let found : Answer k ≡ columnOf a reg = ap columned (sym p) ∙ q ∙ ap (columnOf a) e in
+      let same : Answer k ≡ Answer (h .0) = found ∙ h .1 in
+      let z : h .0 ≡ k = cc in
+      (found, subst (λ (x : ℕ). x < columns) z (h .2))
 
--- the same by the tests of the code
-pub low-aarch64 : (i : ℕ) → i < 10 → (Answer (19 + i) ≡ columnOf aarch64 (getD (aarch64 .saved) i 0)) × (19 + i < columns)
-low-aarch64 i h = let both = columns-aarch64 i (omega arith) in rw (lt-ltb i 10 h) at both
-
-pub high-aarch64 :
-    (i : ℕ) → i < 18 → 10 ≤ i → (Answer (22 + i) ≡ columnOf aarch64 (getD (aarch64 .saved) i 0)) × (22 + i < columns)
-high-aarch64 i h l = let both = columns-aarch64 i h in rw (le-ltb i 10 l) at both
-
-pub low-x86-64 : (i : ℕ) → i ≡ 0 → (Answer 3 ≡ columnOf x86-64 (getD (x86-64 .saved) i 0)) × (3 < columns)
-low-x86-64 i z = let both = columns-x86-64 i (omega arith) in rw (eq-eqb i 0 z) at both
-
-pub high-x86-64 :
-    (i : ℕ) → i < 5 → (i ≡ 0 → ⊥) → (Answer (11 + i) ≡ columnOf x86-64 (getD (x86-64 .saved) i 0)) × (11 + i < columns)
-high-x86-64 i h l = let both = columns-x86-64 i h in rw (ne-eqb i 0 l) at both
+  -- it found one
+  pub column-there : {A : Type 0} → c ≡ Unknown → A
+  column-there p =
+      let same : Refused UnknownRegister ≡ Answer (h .0) = ap columned (sym p) ∙ q ∙ ap (columnOf a) e ∙ h .1 in
+      let z : _≡_ {A = ℕ} 0 1 = cc in
+      absurd (omega arith)

@@ -8,6 +8,7 @@ use Rattle.arch.specs.Arch.{Arch, aarch64, x86-64, numbers}
 use Rattle.arch.specs.File.{columns, columnOf}
 use Rattle.arch.proofs.Arch.{of-both}
 use Rattle.frame.specs.Frame.{kind, leaf, raSlot}
+use Rattle.frame.proofs.Columns.{HasColumn}
 
 -- their columns
 pub record Columns (a : Arch) : Type 0 where
@@ -41,3 +42,7 @@ both =
     of-both Columns
     (record { ra = 30; fp = 29; raKnown = refl; fpKnown = refl; raFits = lit< tt })
     (record { ra = 40; fp = 6; raKnown = refl; fpKnown = refl; raFits = lit< tt })
+
+-- the return register has a column
+pub ra-known : (n : ℕ) → HasColumn (numbers n) (numbers n .ra)
+ra-known n = (both n .ra, both n .raKnown, both n .raFits)

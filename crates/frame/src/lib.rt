@@ -22,7 +22,6 @@ ghost use Rattle.frame.specs.Step as Step;
 ghost use Rattle.frame.specs.Public as Public;
 ghost use Rattle.frame.specs.Answers.{Partly};
 ghost use Rattle.frame.specs.Near.{Near, slotIn, Usable, Within, deepest, Saves};
-use arch::AARCH64;
 use arch::COLUMNS;
 use arch::Column;
 use arch::Next;
@@ -146,10 +145,11 @@ fn slot_in(stack: &[u8], top: usize, slot: usize) -> usize
 fn ra_column(arch: u8) -> usize
     ensures { λ r. ⌜ (Outcome.Answer r ≡ File.columnOf (Arch.numbers arch) (Arch.numbers arch .ra)) × (r < File.columns) ⌝ }
 {
-    if arch == AARCH64 {
-        return 30;
+    let a = arch::numbers(arch);
+    match arch::column_of(arch, a.ra) {
+        Column::At(k) => k,
+        Column::Unknown => 0,
     }
-    PC_COLUMN
 }
 
 // sp is the CFA, pc the stripped return address, in place.
@@ -683,16 +683,10 @@ fn saved_column(arch: u8, bit: usize) -> usize
         (Outcome.Answer r ≡ File.columnOf (Arch.numbers arch) (getD (Arch.numbers arch .saved) bit 0)) × (r < File.columns)
         ⌝ }
 {
-    if arch == AARCH64 {
-        if bit < 10 {
-            return 19 + bit;
-        }
-        return 22 + bit;
+    match arch::column_of(arch, arch::saved(arch, bit)) {
+        Column::At(k) => k,
+        Column::Unknown => 0,
     }
-    if bit == 0 {
-        return 3;
-    }
-    11 + bit
 }
 
 // No slot that a word with n saved registers reads is above this one.

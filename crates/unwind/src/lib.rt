@@ -1,5 +1,5 @@
 // The walk, the throw and the sweep (document 01, "Walk, throw and call machine").
-// `next_frame`, `raise` and `resume` refuse with 28 first. The functions that they call take any architecture number: any but
+// `next_frame`, `walk`, `raise` and `resume` refuse with 28 first. The functions that they call take any architecture number: any but
 // 1 stands for 2 there.
 ghost use mathlib.Core.Path.{_≡_};
 ghost use mathlib.Core.Bool.{true, false, not, _&&_, _||_};

@@ -13,7 +13,7 @@ use ps_unwind::arch;
 use ps_unwind::eko::{self, HOST};
 use ps_unwind::failure;
 use ps_unwind::frame::{FrameInfo, Kind};
-use timing::{INPUTS, measure, picks};
+use timing::{measure, picks};
 
 /// The library's number of x86-64, and its status of an answer and of none.
 const X86_64: u8 = 2;
@@ -64,7 +64,7 @@ mod throws;
 /// pcs in random functions, one in eight past the last.
 fn lookup(records: usize) {
     let (section, first) = tables::section(records);
-    let mut pcs = picks(records).map(|i| first + tables::STRIDE * i + i % tables::STRIDE);
+    let mut pcs: Vec<_> = picks(records).map(|i| first + tables::STRIDE * i + i % tables::STRIDE).collect();
     pcs.iter_mut().step_by(8).for_each(|pc| *pc = first + tables::STRIDE * records);
     measure(
         &format!("lookup {records} records"),
@@ -85,9 +85,8 @@ fn lookup(records: usize) {
 fn run(operations: usize) {
     let (program, code) = tables::program(operations);
     let (at, limit) = (address(&program), address(&program) + program.len());
-    let middle = picks(4).map(|i| code / 2 + i - 2);
-    let end = picks(4).map(|i| code + i);
-    for (place, offs) in [("the middle", middle), ("the end", end)] {
+    for (place, first) in [("the middle", code / 2 - 2), ("the end", code)] {
+        let offs: Vec<_> = picks(4).map(|i| first + i).collect();
         measure(
             &format!("run {operations} operations, at {place}"),
             |i| eko::run(&HOST, at, limit, offs[i]),
@@ -108,10 +107,10 @@ fn theirs(state: &State) -> eko::State {
 }
 
 /// A stack, and for each input a frame pointer in it.
-fn frames() -> (Vec<u8>, [usize; INPUTS]) {
+fn frames() -> (Vec<u8>, Vec<usize>) {
     let stack: Vec<u8> = (0..8192).map(|i| (i * 37 % 251) as u8).collect();
     let base = address(&stack).next_multiple_of(8);
-    (stack, picks(120).map(|i| base + 64 + 64 * i))
+    (stack, picks(120).map(|i| base + 64 + 64 * i).collect())
 }
 
 /// A register file, and the same as we have it.
@@ -172,8 +171,8 @@ fn step() {
 }
 
 /// Return offsets of random rows, one in eight of none.
-fn offsets(rows: usize) -> [u32; INPUTS] {
-    let mut offsets = picks(rows).map(tables::offset);
+fn offsets(rows: usize) -> Vec<u32> {
+    let mut offsets: Vec<_> = picks(rows).map(tables::offset).collect();
     offsets.iter_mut().step_by(8).for_each(|offset| *offset += 1);
     offsets
 }
@@ -227,7 +226,8 @@ fn personality2() {
 
 /// The cleanup phase. The Rust changes its cursor in place; only pc is set anew for each call.
 fn decide(name: &str, section: &[u8], function: Record, kind: Kind) {
-    let (pcs, (regs, mut file)) = (offsets(4).map(|offset| START + offset as usize), files());
+    let pcs: Vec<_> = offsets(4).into_iter().map(|offset| START + offset as usize).collect();
+    let (regs, mut file) = files();
     let info = FrameInfo { start: START, eko_handlers: function.handlers, kind };
     let mut cursor = Cursor { regs, info, ip_before_insn: false };
     measure(

@@ -4,10 +4,9 @@ use ps_unwind::{arch, eko};
 use crate::timing::picks;
 use crate::{FP, address};
 
-/// How many functions a section has, each of 32 bytes, and how many stacks a case.
+/// How many functions a section has, each of 32 bytes.
 const FUNCTIONS: usize = 64;
 const LENGTH: usize = 32;
-pub const STACKS: usize = 8;
 
 /// The words of a frame.
 const WORDS: usize = 6;
@@ -45,13 +44,18 @@ pub fn section(version: u8) -> (Vec<u8>, usize) {
     (bytes, first)
 }
 
-/// A stack of so many frames, which starts at a multiple of 8, and the registers of the innermost one. Every fourth frame has a
-/// cleanup, and the outermost a catch.
-pub fn stack(frames: usize, first: usize, number: usize) -> (Vec<usize>, arch::Regs) {
-    let functions = picks(FUNCTIONS);
+/// Stacks of so many frames, each frame with a function picked at random.
+pub fn stacks(frames: usize, first: usize) -> Vec<(Vec<usize>, arch::Regs)> {
+    picks(FUNCTIONS).collect::<Vec<_>>().chunks_exact(frames).map(|functions| stack(functions, first)).collect()
+}
+
+/// The stack of a frame in each of these functions, which starts at a multiple of 8, and the registers of the innermost one. Every
+/// fourth frame has a cleanup, and the outermost a catch.
+fn stack(functions: &[usize], first: usize) -> (Vec<usize>, arch::Regs) {
+    let frames = functions.len();
     let pc = |k: usize| {
         let place = if k + 1 == frames { CATCH } else if k % 4 == 1 { CLEANUP } else { PLAIN };
-        first + LENGTH * functions[(k + 100 * number) % functions.len()] + place
+        first + LENGTH * functions[k] + place
     };
     let mut words = vec![0; WORDS * frames];
     let base = words.as_ptr() as usize;

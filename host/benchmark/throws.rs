@@ -5,7 +5,7 @@ use ps_unwind::arch;
 use ps_unwind::eko::{self, Record};
 use ps_unwind::frame::{FrameInfo, Kind};
 
-use crate::stacks::{STACKS, bytes, section, stack};
+use crate::stacks::{bytes, section, stacks};
 use crate::timing::measure_over;
 use crate::{ANSWERED, NONE, PC_COLUMN, Regs, Unwinding, X86_64, address, file, raw};
 
@@ -25,18 +25,19 @@ struct Case {
 /// A walk over so many frames, a throw that the outermost catches, and all its landings.
 pub fn all(version: u8, frames: usize) {
     let (section, first) = section(version);
-    let stacks: Vec<_> = (0..STACKS).map(|number| stack(frames, first, number)).collect();
+    let stacks = stacks(frames, first);
+    let inputs = stacks.len();
     let files = stacks.iter().map(|(_, regs)| file(regs)).collect();
     let case = Case { section, stacks, files };
     let name = |what| format!("{what} {frames} frames, version {version}");
-    measure_over(STACKS, &name("walk"), |i| case.rust_walk(i), |i| case.walk(i), |rust, ours| rust == ours);
-    measure_over(STACKS, &name("raise"), |i| case.rust_raise(i), |i| case.raise(i), |rust, ours| {
+    measure_over(inputs, &name("walk"), |i| case.rust_walk(i), |i| case.walk(i), |rust, ours| rust == ours);
+    measure_over(inputs, &name("raise"), |i| case.rust_raise(i), |i| case.raise(i), |rust, ours| {
         (ours.status, ours.reason, ours.number, ours.sp) == (ANSWERED, URC_HANDLER_FOUND, rust.0, rust.1)
     });
-    let chosen: Vec<_> = (0..STACKS).map(|i| case.rust_raise(i)).collect();
-    let unwindings: Vec<_> = (0..STACKS).map(|i| case.raise(i).unwinding).collect();
+    let chosen: Vec<_> = (0..inputs).map(|i| case.rust_raise(i)).collect();
+    let unwindings: Vec<_> = (0..inputs).map(|i| case.raise(i).unwinding).collect();
     let rust = |i: usize| case.rust_resume(i, chosen[i]);
-    measure_over(STACKS, &name("resume"), rust, |i| case.resume(i, unwindings[i]), |rust, ours| rust == ours);
+    measure_over(inputs, &name("resume"), rust, |i| case.resume(i, unwindings[i]), |rust, ours| rust == ours);
 }
 
 fn place(number: usize, regs: &arch::Regs) -> Place {

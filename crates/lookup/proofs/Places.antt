@@ -36,7 +36,7 @@ chunks-from-in (suc n) bytes arch k = go (ltb (length bytes) (k + 16)) (headAt b
     go true h e rest = tt
     go false head.Padding e rest = rest (k + 4)
     go false head.Fault e rest = tt
-    go false (head.Here c) e rest = (head-inside bytes arch k c e .1, rest (k + c .size))
+    go false (head.Here c) e rest = (head-inside bytes arch k c e .1, rest _)
 
 -- the chunks of a part do
 pub chunks-in : (bytes : List ℕ) (arch : ℕ) → AllIn bytes (chunks bytes arch)

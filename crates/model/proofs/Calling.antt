@@ -38,7 +38,7 @@ module _ (arch : ℕ) (file : List ℕ) (g : Good file) (ret : ℕ) where
   pub kept-sp : sp a (keptBy a file ret) ≡ sp a file
   unfolding keptBy
   kept-sp =
-      set-keeps (λ (x : ℕ). x ≡ sp a file) under pcColumn ret (a .sp) (go (returning arch)) (λ e. absurd (omega (arith, pointers arch .spBelow)))
+      set-keeps (λ (x : ℕ). x ≡ sp a file) under pcColumn _ (a .sp) (go (returning arch)) (λ e. absurd (omega (arith, pointers arch .spBelow)))
     where
       go : Returning a → sp a under ≡ sp a file
       go (pushed p is c) = rw p
@@ -60,7 +60,7 @@ module _ (arch : ℕ) (file : List ℕ) (g : Good file) (ret : ℕ) where
     -- and after
     pub kept-good : Good (keptBy a file ret)
     unfolding keptBy
-    kept-good = set-good under pcColumn ret small under-good
+    kept-good = set-good under pcColumn _ (omega arith) under-good
 
     -- the kept pc is ret
     pub kept-pc : pc (keptBy a file ret) ≡ ret

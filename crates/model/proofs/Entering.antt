@@ -128,8 +128,8 @@ module _ (m : Machine) (e : Entry) (ret : ℕ) (i : Inv m) where
           record {
             known = i .known;
             accepted =
-                by-test (λ (s : Region). opens (record { regions = m .section ∷ s ∷ [] }) ≡ true) (pushes a) (written (m .stack) top ret) (m .stack)
-                (λ p. written-opens (m .section) (m .stack) top ret (within p) (i .accepted)) (λ p. i .accepted);
+                by-test (λ (s : Region). opens (record { regions = m .section ∷ s ∷ [] }) ≡ true) (pushes a) _ (m .stack)
+                (λ p. written-opens (m .section) (m .stack) top _ (within p) (i .accepted)) (λ p. i .accepted);
             bytes = i .bytes;
             wide = next .wide;
             values = next .below;

@@ -26,11 +26,6 @@ pub record Answered (o : Outcome Ran) : Type 0 where
   pub ran : Ran
   pub is : o ≡ Answer ran
 
--- a run that is not refused answers
-pub answered : (o : Outcome Ran) → ((n : ℕ) → o ≡ Outcome.Refused n → ⊥) → Answered o
-answered (Outcome.Refused n) f = absurd (f n refl)
-answered (Answer r) f = record { ran = r; is = refl }
-
 -- where a run stops before the program's END
 abbrev pub stopped : Stand → Ran
 stopped s = record { state = s .state; after = 0 }

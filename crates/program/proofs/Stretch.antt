@@ -138,14 +138,6 @@ recall-at : (l : List State) (s s′ : Stand) → recall l s ≡ On s′ → s�
 recall-at [] s s′ e = let z : _≡_ {A = ℕ} 0 1 = cc in absurd (omega arith)
 recall-at (st ∷ sts) s s′ e = cc
 
--- they end no run
-remember-on : (s : Stand) (r : Ran) → remember s ≡ Ends r → ⊥
-remember-on s r = go (eqb (length (s .remembered)) maxRemember) refl
-  where
-    go : (t : Bool) → eqb (length (s .remembered)) maxRemember ≡ t → remember s ≡ Ends r → ⊥
-    go true p e = let q = rw p at e in let z : _≡_ {A = ℕ} 0 1 = cc in omega arith
-    go false p e = let q = rw p at e in let z : _≡_ {A = ℕ} 0 1 = cc in omega arith
-
 goes : (a : Arch) (off off′ next : ℕ) (op : Op) (s s′ : Stand) → act a off next op s ≡ On s′ → Goes a off off′ next op s s′
 unfolding act
 goes a off off′ next End s s′ e = let z : _≡_ {A = ℕ} 0 1 = cc in absurd (omega arith)

@@ -1,7 +1,6 @@
 -- `program::refused` meets its contract. Assumes nothing.
 use mathlib.Core.Path.{sym, ap}
 use mathlib.Core.Bool.{Bool}
-use borrow.Author.Needs.{needs}
 use Rattle.program.specs.Answers.{stopped}
 use Rattle.program.proofs.refused.Statement.{statement}
 use Rattle.program.proofs.refused.Tie as tie

@@ -1,7 +1,7 @@
 -- `program::run_both` meets its contract. The invariant: both runs are what is left of them from where the loop stands, or the first
 -- has ended. The measure is the bytes below the limit. Assumes nothing.
 use mathlib.Core.Path.{_≡_, refl, sym, _∙_, ap}
-use Prim.Native.Nat.{_-_, _≤_, _<_}
+use Prim.Native.Nat.{_-_, _<_}
 use native.Mathlib.Omega.{arith}
 use borrow.Author.Needs.{needs}
 use borrow.Author.Tests.{not-true, not-false}

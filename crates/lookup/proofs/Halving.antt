@@ -142,6 +142,11 @@ module _ (bytes : List ℕ) (base : ℕ) (c : Chunk) (pc : ℕ) where
         let e = s .same ∙ halve-last (s .fuel) (recordOf bytes base c) pc (s .lo) (s .lo + width) (omega arith) in
         record { below = rw e (s .lower); place = s .place ∙ ap (placeOf c) (sym e) }
 
+-- a chunk whose stride is given again is the same
+pub same-chunk : (c : Chunk) (n : ℕ) → c .stride ≡ n →
+    c ≡ record { offset = c .offset; version = c .version; stride = n; count = c .count; size = c .size }
+same-chunk c n e = rw (sym e)
+
 -- the search settles for what halving finds
 pub search-halved : (rec : ℕ → Record) (count pc i : ℕ) → i ≡ halve count rec pc 0 count → settle rec count pc i ≡ search rec count pc
 unfolding search

@@ -305,6 +305,33 @@ fn halve(part: &[u8], base: usize, c: Chunk, pc: usize) -> usize
     at
 }
 
+// The same, by a stride that the compiler knows: a turn is shorter so.
+fn halve_by(part: &[u8], base: usize, c: Chunk, pc: usize) -> usize
+    requires { ⌜ Inside (now part) c × (0 < c .count) ⌝ }
+    ensures { λ r. ⌜ Stands c (halved (now (part .entry)) base c pc) r ⌝ }
+{
+    if c.version == VERSION {
+        return halve(
+            part,
+            base,
+            Chunk {
+                stride: RECORD,
+                ..c
+            },
+            pc,
+        );
+    }
+    halve(
+        part,
+        base,
+        Chunk {
+            stride: RECORD2,
+            ..c
+        },
+        pc,
+    )
+}
+
 // The left neighbour of the record at offset k ends above its start.
 fn left_meets(part: &[u8], base: usize, c: Chunk, k: usize, start: usize) -> bool
     requires { ⌜ Inside (now part) c × SomeStands c k × (start ≡ startAt (now part) base k) ⌝ }
@@ -370,7 +397,7 @@ fn search_in(part: &[u8], base: usize, c: Chunk, pc: usize) -> Searched
     if end_at(part, base, first + (c.count - 1) * c.stride) <= pc {
         return Searched::NotHeld;
     }
-    settle(part, base, c, pc, halve(part, base, c, pc))
+    settle(part, base, c, pc, halve_by(part, base, c, pc))
 }
 
 // Lookup.

@@ -36,9 +36,9 @@ four b k h =
     omega (arith, word-more b k (k + 1) 3 (omega arith) (omega arith), word-more b (k + 1) (k + 2) 2 (omega arith) (omega arith), word-more b (k + 2) (k + 3) 1 (omega arith) (omega arith), word-more b (k + 3) (k + 4) 0 (omega arith) (omega arith))
 
 -- a test counts at most 1
-pub test-some : (n : ℕ) (t : Bool) → 0 < n → boolByte t ≤ n
-test-some n true h = omega arith
-test-some n false h = omega arith
+pub test-small : (t : Bool) → boolByte t ≤ 1
+test-small true = omega arith
+test-small false = omega arith
 
 -- a test that failed says nothing
 pub never : {A : Type 0} → false ≡ true → A
@@ -234,16 +234,16 @@ module _ (section : List ℕ) (base table ret count : ℕ) where
       left-at l h next m e f x =
           record { whole = s .whole; lo = l; place = e; left = subst (λ (k : ℕ). Left (alone section base) table count ret l k) f x }
 
-      pub turn-in : (up : Bool) → ltb offset ret ≡ up → (next : ℕ) → next ≡ (if up then at + 12 * (n / 2) + 12 else at) →
-          LeftIn section base table count ret next ((n - boolByte (ltb offset ret)) / 2)
+      pub turn-in : (down : Bool) → ltb ret offset ≡ down → (next : ℕ) → next ≡ (if down then at else at + 12 * (n / 2) + 12) →
+          LeftIn section base table count ret next ((n - 1 + boolByte (ltb ret offset)) / 2)
       turn-in true t next e =
           rw t
-          (left-at (s .lo + (s .lo + n - s .lo) / 2 + 1) (s .lo + n) next ((n - 1) / 2) (omega (arith, s .place)) (omega arith)
-          (turn-above (alone section base) table ret count (s .lo) (s .lo + n) (s .left) (omega arith) it read other (ltb-true offset ret t)))
+          (left-at (s .lo) (s .lo + (s .lo + n - s .lo) / 2) next ((n - 1 + 1) / 2) (omega (arith, s .place)) (omega arith)
+          (turn-below (alone section base) table ret count (s .lo) (s .lo + n) (s .left) (omega arith) it read other (omega (arith, ltb-true ret offset t))))
       turn-in false t next e =
           rw t
-          (left-at (s .lo) (s .lo + (s .lo + n - s .lo) / 2) next ((n - 0) / 2) (omega (arith, s .place)) (omega arith)
-          (turn-below (alone section base) table ret count (s .lo) (s .lo + n) (s .left) (omega arith) it read other (ltb-false offset ret t)))
+          (left-at (s .lo + (s .lo + n - s .lo) / 2 + 1) (s .lo + n) next ((n - 1 + 0) / 2) (omega (arith, s .place)) (omega arith)
+          (turn-above (alone section base) table ret count (s .lo) (s .lo + n) (s .left) (omega arith) it read other (omega (arith, ltb-false ret offset t, other))))
 
   pub over-in : (at n : ℕ) → LeftIn section base table count ret at n → n ≤ 0 → Answer None ≡ handler (alone section base) table ret
   over-in at n s h = over (alone section base) table ret count (s .lo) (s .lo + n) (s .left) (omega arith)

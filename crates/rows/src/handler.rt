@@ -320,11 +320,11 @@ fn handler_in(section: &[u8], base: usize, table: usize, ret: usize) -> Row
         if offset == ret {
             return judged_in(section, base, table, count, middle, offset);
         }
-        let up = offset < ret;
-        if up {
+        let down = ret < offset;
+        if !down {
             at = middle + 12;
         }
-        n = (n - up as usize) / 2;
+        n = (n - 1 + down as usize) / 2;
     }
     Row::None
 }

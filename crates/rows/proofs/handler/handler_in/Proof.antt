@@ -3,8 +3,9 @@ use mathlib.Core.Bool.{true, false}
 use mathlib.Core.Logic.{⊎-elim}
 use native.Mathlib.Omega.{arith}
 use lib.Dec.{ltb}
-use Rattle.rows.proofs.Held.{LeftIn, begin-in, room-in, row-middle, turn-found-in, turn-in, over-in, test-some}
+use Rattle.rows.proofs.Held.{LeftIn, begin-in, room-in, row-middle, turn-found-in, turn-in, over-in, test-small}
 use borrow.Author.Needs.{needs}
+use borrow.Author.Tests.{not-true, not-false}
 use Rattle.rows.proofs.handler.handler_in.Statement.{statement}
 use Rattle.rows.proofs.handler.handler_in.Tie as tie
 
@@ -62,24 +63,29 @@ add-at-2 c =
     let room = room-in _ _ _ _ _ _ _ (l .before .loop .inv) (l .loop-test .taken) in
     omega arith
 
+sub-n : tie.Need-sub-n Inv-loop μ-loop
+sub-n c = search needs
+
 cast-n : tie.Need-cast-n Inv-loop μ-loop
 cast-n c = search needs
 
-sub-n : tie.Need-sub-n Inv-loop μ-loop
-sub-n c =
+add-n : tie.Need-add-n Inv-loop μ-loop
+add-n c =
     let r = c .before .before in
-    test-some _ (ltb (r .u32-at2 .result) (r .before .before .before .before .before .args .ret)) (r .before .loop-test .taken)
+    omega (arith, test-small (ltb (r .before .before .before .before .before .args .ret) (r .u32-at2 .result)))
 
 loop-less : tie.Need-loop-less Inv-loop μ-loop
-loop-less c = omega (arith, c .before .before .before .loop-test .taken)
+loop-less c =
+    let r = c .before .before in
+    omega (arith, r .before .loop-test .taken, test-small (ltb (r .before .before .before .before .before .args .ret) (r .u32-at2 .result)))
 
 loop-again : tie.Need-loop-again Inv-loop μ-loop
 loop-again c =
     let r = c .before .before in
     let l = r .before in
     ⊎-elim
-    (λ w. turn-in _ _ _ _ _ _ _ (l .before .loop .inv) (l .loop-test .taken) _ (r .u32-at2 .ensures .0) (c .before .if1 .left) true (w .0 .taken) _ (w .1))
-    (λ w. turn-in _ _ _ _ _ _ _ (l .before .loop .inv) (l .loop-test .taken) _ (r .u32-at2 .ensures .0) (c .before .if1 .left) false (w .0 .left) _ (w .1))
+    (λ w. turn-in _ _ _ _ _ _ _ (l .before .loop .inv) (l .loop-test .taken) _ (r .u32-at2 .ensures .0) (c .before .if1 .left) false (not-true _ (w .0 .taken)) _ (w .1))
+    (λ w. turn-in _ _ _ _ _ _ _ (l .before .loop .inv) (l .loop-test .taken) _ (r .u32-at2 .ensures .0) (c .before .if1 .left) true (not-false _ (w .0 .left)) _ (w .1))
     (c .if2 .came)
 
 returns-2 : tie.Need-returns-2 Inv-loop μ-loop
@@ -101,8 +107,9 @@ handler-in-spec =
     judged-in-requires
     returns
     add-at-2
-    cast-n
     sub-n
+    cast-n
+    add-n
     loop-less
     loop-again
     returns-2)

@@ -96,46 +96,47 @@ module _ (bytes : List ℕ) (base : ℕ) (c : Chunk) (pc : ℕ) where
       }
 
   module _ (at width turns : ℕ) (s : Halved bytes base c pc at width turns) where
-    -- the record in the middle stands where the turn reads
-    middle-stands : Stands c (s .lo + width / 2) (at + width / 2 * c .stride)
-    middle-stands = record { below = omega arith; place = omega (arith, add-mul (s .lo) (width / 2) (c .stride)) }
-
-    pub halved-room : Inside bytes c → at + width / 2 * c .stride + c .stride ≤ length bytes
-    halved-room h = stands-room c bytes h _ _ middle-stands
-
     pub halved-few : Inside bytes c → width + 1 ≤ length bytes
     halved-few h = omega (arith, mul-le-mul-left (c .count) (h .long), h .whole, h .room)
 
-    -- the number of the first record left after a turn
-    abbrev first-left : Bool → ℕ
-    first-left down = if down then s .lo else s .lo + width / 2
+    module _ (half : ℕ) (is : half ≡ width / 2) where
+      -- the record in the middle stands where the turn reads
+      middle-stands : Stands c (s .lo + width / 2) (at + half * c .stride)
+      middle-stands = record { below = omega arith; place = rw is (omega (arith, add-mul (s .lo) (width / 2) (c .stride))) }
 
-    stands-left : (down : Bool) → (next : ℕ) → next ≡ (if down then at else at + width / 2 * c .stride) → Stands c (first-left down) next
-    stands-left true next p = record { below = s .lower; place = p ∙ s .place }
-    stands-left false next p = record { below = middle-stands .below; place = p ∙ middle-stands .place }
+      pub halved-room : Inside bytes c → at + half * c .stride + c .stride ≤ length bytes
+      halved-room h = stands-room c bytes h _ _ middle-stands
 
-    upper-left : (down : Bool) → first-left down + (width + 1 - boolByte down) / 2 ≤ c .count
-    upper-left true = omega arith
-    upper-left false = omega arith
+      -- the number of the first record left after a turn
+      abbrev first-left : Bool → ℕ
+      first-left down = if down then s .lo else s .lo + width / 2
 
-    pub halved-turn : (r : ℕ) → r ≡ startAt bytes base (at + width / 2 * c .stride) → (down : Bool) → ltb pc r ≡ down →
-        (next : ℕ) → next ≡ (if down then at else at + width / 2 * c .stride) →
-        Halved bytes base c pc next ((width + 1 - boolByte (ltb pc r)) / 2) (turns / 2)
-    halved-turn r e down t next p =
-        let start = e ∙ stands-start c bytes base _ _ middle-stands in
-        let tested = ap (λ (x : ℕ). ltb pc x) (sym start) ∙ t in
-        let width-left : (width + 1 - boolByte (ltb pc r)) / 2 ≡ (width + 1 - boolByte down) / 2 = rw t in
-        let stands = stands-left down next p in
-        record {
-          lo = first-left down;
-          fuel = s .fuel - 1;
-          place = stands .place;
-          same = s .same ∙ halve-turn (recordOf bytes base c) pc (s .lo) width _ _ (s .fuel) (s .enough) down tested refl width-left;
-          enough = omega arith;
-          lower = stands .below;
-          upper = rw width-left (upper-left down);
-          bound = omega arith;
-        }
+      stands-left : (down : Bool) (next : ℕ) → next ≡ (if down then at else at + half * c .stride) → Stands c (first-left down) next
+      stands-left true next p = record { below = s .lower; place = p ∙ s .place }
+      stands-left false next p = record { below = middle-stands .below; place = p ∙ middle-stands .place }
+
+      upper-left : (down : Bool) → first-left down + (width + 1 - boolByte down) / 2 ≤ c .count
+      upper-left true = omega arith
+      upper-left false = omega arith
+
+      pub halved-turn : (r : ℕ) → r ≡ startAt bytes base (at + half * c .stride) → (down : Bool) → ltb pc r ≡ down →
+          (next : ℕ) → next ≡ (if down then at else at + half * c .stride) →
+          Halved bytes base c pc next ((width + 1 - boolByte (ltb pc r)) / 2) (turns / 2)
+      halved-turn r e down t next p =
+          let start = e ∙ stands-start c bytes base _ _ middle-stands in
+          let tested = ap (λ (x : ℕ). ltb pc x) (sym start) ∙ t in
+          let width-left : (width + 1 - boolByte (ltb pc r)) / 2 ≡ (width + 1 - boolByte down) / 2 = rw t in
+          let stands = stands-left down next p in
+          record {
+            lo = first-left down;
+            fuel = s .fuel - 1;
+            place = stands .place;
+            same = s .same ∙ halve-turn (recordOf bytes base c) pc (s .lo) width _ _ (s .fuel) (s .enough) down tested refl width-left;
+            enough = omega arith;
+            lower = stands .below;
+            upper = rw width-left (upper-left down);
+            bound = omega arith;
+          }
 
     pub halved-over : turns ≤ 0 → Stands c (halved bytes base c pc) at
     halved-over h =

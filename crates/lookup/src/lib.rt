@@ -292,14 +292,17 @@ fn halve(part: &[u8], base: usize, c: Chunk, pc: usize) -> usize
 {
     let mut at = c.offset + HEADER;
     let mut width = c.count;
+    let mut half = c.count / 2;
     let mut turns = c.count - 1;
     while 0 < turns {
-        let middle = at + width / 2 * c.stride;
+        let middle = at + half * c.stride;
         let down = pc < start_at(part, base, middle);
         if !down {
             at = middle;
         }
-        width = (width + 1 - down as usize) / 2;
+        let twice = width + 1 - down as usize;
+        width = twice / 2;
+        half = twice / 4;
         turns = turns / 2;
     }
     at

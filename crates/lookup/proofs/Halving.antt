@@ -2,13 +2,14 @@
 use mathlib.Core.Path.{_≡_, refl, sym, _∙_, ap}
 use mathlib.Core.Bool.{Bool, true, false}
 use mathlib.Core.List.{List}
-use Prim.Native.Nat.{ℕ, zero, suc, _+_, _-_, _*_, _/_, _%_, _≤_, _<_}
-use native.Mathlib.Nat.{mul-zero, mul-one, add-mul, mul-right-comm}
+use Prim.Native.Nat.{ℕ, zero, suc, _+_, _-_, _*_, _/_, _≤_, _<_}
+use native.Mathlib.Nat.{add-mul, mul-le-mul-left}
 use native.Mathlib.Omega.{arith}
-use lib.Dec.{leb, ltb}
+use lib.Dec.{ltb}
 use lib.ListN.{length}
 use mir.Val.{boolByte}
-use borrow.Author.Tests.{lt-ltb, le-ltb, le-leb, lt-leb, leb-true, leb-false, ltb-true, ltb-false}
+use borrow.Author.Tests.{lt-ltb, le-ltb, le-leb, lt-leb, ltb-true, ltb-false}
+use Rattle.failure.specs.Choice.{if_then_else_}
 use Rattle.lookup.specs.Search.{middle, halve, settle, search}
 use Rattle.lookup.specs.Record.{startAt, placeOf, recordOf}
 use Rattle.lookup.specs.Steps.{Inside, Stands, halved}
@@ -33,43 +34,44 @@ unfolding halve
 halve-last zero rec pc lo hi h = refl
 halve-last (suc n) rec pc lo hi h = simp (le-ltb _ _ h)
 
--- a number times a test is at most the number
-pub times-test : (x : ℕ) (t : Bool) → x * boolByte t ≤ x
-times-test x true = omega (arith, mul-one x)
-times-test x false = omega (arith, mul-zero x)
+-- a test counts at most 1
+pub test-small : (t : Bool) → boolByte t ≤ 1
+test-small true = omega arith
+test-small false = omega arith
 
--- a turn over `width` records, by the test t of the one in the middle; where at most one is left it changes nothing
+-- a turn over `width` records, down where the one in the middle starts above pc; where at most one is left it changes nothing
 module _ (rec : ℕ → Record) (pc lo width l w : ℕ) where
-  halve-turn : (n : ℕ) → width ≤ n + 1 → (t : Bool) → leb (rec (lo + width / 2) .start) pc ≡ t →
-      l ≡ lo + width / 2 * boolByte t → w ≡ width / 2 + width % 2 * boolByte t →
+  halve-turn : (n : ℕ) → width ≤ n + 1 → (down : Bool) → ltb pc (rec (lo + width / 2) .start) ≡ down →
+      l ≡ (if down then lo else lo + width / 2) → w ≡ (width + 1 - boolByte down) / 2 →
       halve n rec pc lo (lo + width) ≡ halve (n - 1) rec pc l (l + w)
-  halve-turn n f t e p q = go n f (ltb 1 width) refl t e p q
+  halve-turn n f down e p q = go n f (ltb 1 width) refl down e p q
     where
       mid : middle lo (lo + width) ≡ lo + width / 2
       mid = omega arith
 
-      go : (m : ℕ) → width ≤ m + 1 → (more : Bool) → ltb 1 width ≡ more → (t : Bool) → leb (rec (lo + width / 2) .start) pc ≡ t →
-          l ≡ lo + width / 2 * boolByte t → w ≡ width / 2 + width % 2 * boolByte t →
+      stays : (m : ℕ) → width ≤ 1 → lo ≡ l → w ≤ 1 → halve m rec pc lo (lo + width) ≡ halve (m - 1) rec pc l (l + w)
+      stays m f p q =
+          halve-last m rec pc lo (lo + width) (omega arith) ∙ p ∙ sym (halve-last (m - 1) rec pc l (l + w) (omega arith))
+
+      go : (m : ℕ) → width ≤ m + 1 → (more : Bool) → ltb 1 width ≡ more → (down : Bool) → ltb pc (rec (lo + width / 2) .start) ≡ down →
+          l ≡ (if down then lo else lo + width / 2) → w ≡ (width + 1 - boolByte down) / 2 →
           halve m rec pc lo (lo + width) ≡ halve (m - 1) rec pc l (l + w)
-      go m f false g t e p q =
-          let one = ltb-false 1 width g in
-          let stays : lo ≡ l = omega (arith, times-test (width / 2) t) in
-          halve-last m rec pc lo (lo + width) (omega arith) ∙ stays ∙
-          sym (halve-last (m - 1) rec pc l (l + w) (omega (arith, times-test (width % 2) t)))
-      go zero f true g t e p q = absurd (omega (arith, ltb-true 1 width g))
+      go m f false g true e p q = stays m (ltb-false 1 width g) (omega arith) (omega (arith, ltb-false 1 width g))
+      go m f false g false e p q = stays m (ltb-false 1 width g) (omega (arith, ltb-false 1 width g)) (omega (arith, ltb-false 1 width g))
+      go zero f true g down e p q = absurd (omega (arith, ltb-true 1 width g))
       go (suc m) f true g true e p q =
-          let from : middle lo (lo + width) ≡ l = omega (arith, mul-one (width / 2)) in
-          let to : lo + width ≡ l + w = omega (arith, mul-one (width / 2), mul-one (width % 2)) in
+          let from : lo ≡ l = omega arith in
+          let to : middle lo (lo + width) ≡ l + w = omega arith in
           let left : m ≡ suc m - 1 = omega arith in
-          halve-up m rec pc lo (lo + width) (omega (arith, ltb-true 1 width g)) (rw mid (leb-true _ _ e)) ∙ (cc)
+          halve-down m rec pc lo (lo + width) (omega (arith, ltb-true 1 width g)) (rw mid (ltb-true _ _ e)) ∙ (cc)
       go (suc m) f true g false e p q =
-          let from : lo ≡ l = omega (arith, mul-zero (width / 2)) in
-          let to : middle lo (lo + width) ≡ l + w = omega (arith, mul-zero (width / 2), mul-zero (width % 2)) in
+          let from : middle lo (lo + width) ≡ l = omega arith in
+          let to : lo + width ≡ l + w = omega arith in
           let left : m ≡ suc m - 1 = omega arith in
-          halve-down m rec pc lo (lo + width) (omega (arith, ltb-true 1 width g)) (rw mid (leb-false _ _ e)) ∙ (cc)
+          halve-up m rec pc lo (lo + width) (omega (arith, ltb-true 1 width g)) (rw mid (ltb-false _ _ e)) ∙ (cc)
 
 -- the halving has come to the records from number `lo` on, at offset `at`
-pub record Halved (bytes : List ℕ) (base : ℕ) (c : Chunk) (pc at width most : ℕ) : Type 0 where
+pub record Halved (bytes : List ℕ) (base : ℕ) (c : Chunk) (pc at width turns : ℕ) : Type 0 where
   pub lo : ℕ
   pub fuel : ℕ
   pub place : at ≡ placeOf c lo
@@ -77,10 +79,10 @@ pub record Halved (bytes : List ℕ) (base : ℕ) (c : Chunk) (pc at width most 
   pub enough : width ≤ fuel + 1
   pub lower : lo < c .count
   pub upper : lo + width ≤ c .count
-  pub bound : width ≤ most
+  pub bound : width ≤ turns + 1
 
 module _ (bytes : List ℕ) (base : ℕ) (c : Chunk) (pc : ℕ) where
-  pub halved-begin : 0 < c .count → Halved bytes base c pc (c .offset + 16) (c .count) (c .count)
+  pub halved-begin : 0 < c .count → Halved bytes base c pc (c .offset + 16) (c .count) (c .count - 1)
   halved-begin h =
       record {
         lo = 0;
@@ -93,38 +95,58 @@ module _ (bytes : List ℕ) (base : ℕ) (c : Chunk) (pc : ℕ) where
         bound = omega arith;
       }
 
-  module _ (at width most : ℕ) (s : Halved bytes base c pc at width most) where
-    -- the record in the middle stands where the turn reads
-    middle-stands : Stands c (s .lo + width / 2) (at + width / 2 * c .stride)
-    middle-stands = record { below = omega arith; place = omega (arith, add-mul (s .lo) (width / 2) (c .stride)) }
+  module _ (at width turns : ℕ) (s : Halved bytes base c pc at width turns) where
+    pub halved-few : Inside bytes c → width + 1 ≤ length bytes
+    halved-few h = omega (arith, mul-le-mul-left (c .count) (h .long), h .whole, h .room)
 
-    pub halved-room : Inside bytes c → at + width / 2 * c .stride + c .stride ≤ length bytes
-    halved-room h = stands-room c bytes h _ _ middle-stands
+    module _ (half : ℕ) (is : half ≡ width / 2) where
+      -- the record in the middle stands where the turn reads
+      middle-stands : Stands c (s .lo + width / 2) (at + half * c .stride)
+      middle-stands = record { below = omega arith; place = rw is (omega (arith, add-mul (s .lo) (width / 2) (c .stride))) }
 
-    pub halved-turn : (r : ℕ) → r ≡ startAt bytes base (at + width / 2 * c .stride) →
-        Halved bytes base c pc (at + width / 2 * c .stride * boolByte (leb r pc)) (width / 2 + width % 2 * boolByte (leb r pc)) (most - most / 2)
-    halved-turn r e =
-        let half = width / 2 in
-        let up = boolByte (leb r pc) in
-        let skipped = times-test half (leb r pc) in
-        let odd = times-test (width % 2) (leb r pc) in
-        let start = e ∙ stands-start c bytes base _ _ middle-stands in
-        let tested = ap (λ (x : ℕ). leb x pc) (sym start) in
-        record {
-          lo = s .lo + half * up;
-          fuel = s .fuel - 1;
-          place = omega (arith, add-mul (s .lo) (half * up) (c .stride), mul-right-comm half (c .stride) up);
-          same = s .same ∙ halve-turn (recordOf bytes base c) pc (s .lo) width _ _ (s .fuel) (s .enough) (leb r pc) tested refl refl;
-          enough = omega arith;
-          lower = omega arith;
-          upper = omega arith;
-          bound = omega arith;
-        }
+      pub halved-room : Inside bytes c → at + half * c .stride + c .stride ≤ length bytes
+      halved-room h = stands-room c bytes h _ _ middle-stands
 
-    pub halved-over : most ≤ 1 → Stands c (halved bytes base c pc) at
+      -- the number of the first record left after a turn
+      abbrev first-left : Bool → ℕ
+      first-left down = if down then s .lo else s .lo + width / 2
+
+      stands-left : (down : Bool) (next : ℕ) → next ≡ (if down then at else at + half * c .stride) → Stands c (first-left down) next
+      stands-left true next p = record { below = s .lower; place = p ∙ s .place }
+      stands-left false next p = record { below = middle-stands .below; place = p ∙ middle-stands .place }
+
+      upper-left : (down : Bool) → first-left down + (width + 1 - boolByte down) / 2 ≤ c .count
+      upper-left true = omega arith
+      upper-left false = omega arith
+
+      pub halved-turn : (r : ℕ) → r ≡ startAt bytes base (at + half * c .stride) → (down : Bool) → ltb pc r ≡ down →
+          (next : ℕ) → next ≡ (if down then at else at + half * c .stride) →
+          Halved bytes base c pc next ((width + 1 - boolByte (ltb pc r)) / 2) (turns / 2)
+      halved-turn r e down t next p =
+          let start = e ∙ stands-start c bytes base _ _ middle-stands in
+          let tested = ap (λ (x : ℕ). ltb pc x) (sym start) ∙ t in
+          let width-left : (width + 1 - boolByte (ltb pc r)) / 2 ≡ (width + 1 - boolByte down) / 2 = rw t in
+          let stands = stands-left down next p in
+          record {
+            lo = first-left down;
+            fuel = s .fuel - 1;
+            place = stands .place;
+            same = s .same ∙ halve-turn (recordOf bytes base c) pc (s .lo) width _ _ (s .fuel) (s .enough) down tested refl width-left;
+            enough = omega arith;
+            lower = stands .below;
+            upper = rw width-left (upper-left down);
+            bound = omega arith;
+          }
+
+    pub halved-over : turns ≤ 0 → Stands c (halved bytes base c pc) at
     halved-over h =
         let e = s .same ∙ halve-last (s .fuel) (recordOf bytes base c) pc (s .lo) (s .lo + width) (omega arith) in
         record { below = rw e (s .lower); place = s .place ∙ ap (placeOf c) (sym e) }
+
+-- a chunk whose stride is given again is the same
+pub same-chunk : (c : Chunk) (n : ℕ) → c .stride ≡ n →
+    c ≡ record { offset = c .offset; version = c .version; stride = n; count = c .count; size = c .size }
+same-chunk c n e = rw (sym e)
 
 -- the search settles for what halving finds
 pub search-halved : (rec : ℕ → Record) (count pc i : ℕ) → i ≡ halve count rec pc 0 count → settle rec count pc i ≡ search rec count pc

@@ -6,7 +6,7 @@ use Prim.Native.Nat.{ℕ, suc, _+_, _-_, _*_, _%_, _≤_, _<_}
 use native.Mathlib.Omega.{arith}
 use lib.Dec.{eqb, ltb}
 use lib.ListN.{length}
-use borrow.Author.Tests.{eq-eqb, ne-eqb, lt-ltb, le-ltb, eqb-false, ltb-false}
+use borrow.Author.Tests.{eq-eqb, ne-eqb, lt-ltb, le-ltb, eqb-true, eqb-false, ltb-false}
 use Rattle.failure.specs.Choice.{if_then_else_}
 use Rattle.mem.proofs.Tests.{leb-same}
 use Rattle.lookup.specs.Field.{word}
@@ -34,14 +34,14 @@ stride-small v = go (eqb v 1) (eqb v 2)
     go false true = omega arith
     go false false = omega arith
 
--- a known version's has at least 12, one of version 1 has 16
-pub stride-known : (v : ℕ) → (stride v ≡ 0 → ⊥) → (12 ≤ stride v) × (v ≡ 1 → 16 ≤ stride v)
+-- a known version's has at least 12, one of version 1 has 16, another 12
+stride-known : (v : ℕ) → (stride v ≡ 0 → ⊥) → (12 ≤ stride v) × (v ≡ 1 → stride v ≡ 16) × ((v ≡ 1 → ⊥) → stride v ≡ 12)
 unfolding stride
 stride-known v h = go (eqb v 1) refl (eqb v 2) refl
   where
-    go : (s : Bool) → eqb v 1 ≡ s → (t : Bool) → eqb v 2 ≡ t → (12 ≤ stride v) × (v ≡ 1 → 16 ≤ stride v)
-    go true e t f = rw e (omega arith, λ _. omega arith)
-    go false e true f = rw (e, f) (omega arith, λ one. absurd (eqb-false v 1 e one))
+    go : (s : Bool) → eqb v 1 ≡ s → (t : Bool) → eqb v 2 ≡ t → (12 ≤ stride v) × (v ≡ 1 → stride v ≡ 16) × ((v ≡ 1 → ⊥) → stride v ≡ 12)
+    go true e t f = rw e (omega arith, λ _. refl, λ two. absurd (two (eqb-true v 1 e)))
+    go false e true f = rw (e, f) (omega arith, λ one. absurd (eqb-false v 1 e one), λ _. refl)
     go false e false f = absurd (h (rw (e, f)))
 
 -- the chunk that is made of the fields that were read
@@ -128,7 +128,7 @@ module _ (bytes : List ℕ) (arch k : ℕ) where
   chunk-inside f =
       let t = faultless-tests bytes arch k (chunkAt bytes k) f in
       let s = stride-known (word bytes (k + 4) 1) (t .0) in
-      (refl, record { whole = t .2; room = t .1; long = s .0; longer = s .1 }, omega (arith, t .1))
+      (refl, record { whole = t .2; room = t .1; long = s .0; one = s .1; two = s .2 }, omega (arith, t .1))
 
   pub header-room : Inside bytes (chunkAt bytes k) → k + 16 ≤ length bytes
   unfolding chunkAt

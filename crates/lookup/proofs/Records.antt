@@ -2,7 +2,7 @@
 use mathlib.Core.Path.{_≡_, refl, sym, _∙_, ap}
 use mathlib.Core.Bool.{Bool, true, false, and-false, or-true, or-false}
 use mathlib.Core.List.{List}
-use Prim.Native.Nat.{ℕ, zero, suc, _+_, _-_, _*_, _^_, _%_, _≤_, _<_}
+use Prim.Native.Nat.{ℕ, zero, suc, _+_, _-_, _*_, _≤_, _<_}
 use native.Mathlib.Omega.{arith}
 use native.Mathlib.Nat.{mul-le-mul-right, suc-mul, zero-mul, one-mul, add-mul, le-of-mul-le-mul-right}
 use lib.Dec.{eqb, leb, ltb}
@@ -136,14 +136,6 @@ module _ (r : Record) where
   pub bad-table : r .version ≡ 2 → r .program < r .limit → (r .handlers ≡ 0 → ⊥) → eqb (r .program) 0 ≡ badRecord r
   unfolding badRecord
   bad-table v p h = simp (eq-eqb _ _ v, lt-leb _ _ p, ne-eqb _ _ h, or-false)
-
--- a word that is moved up by 2^31, modulo 2^32, and down again is read as a signed number
-pub signed-made : (w s r : ℕ) → w < 2 ^ 32 → s ≡ (w + 2 ^ 31) % 2 ^ 32 → r ≡ sum s (2 ^ 64 - 2 ^ 31) → r ≡ signed32 w
-signed-made w s r h p q = go (ltb w (2 ^ 31)) refl
-  where
-    go : (t : Bool) → ltb w (2 ^ 31) ≡ t → r ≡ signed32 w
-    go true e = rw e (omega (arith, ltb-true w (2 ^ 31) e))
-    go false e = rw e (omega (arith, ltb-false w (2 ^ 31) e))
 
 -- what is made of the fields that were read
 module _ (bytes : List ℕ) (base k : ℕ) where

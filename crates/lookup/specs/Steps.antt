@@ -23,7 +23,8 @@ pub record Inside (bytes : List ℕ) (c : Chunk) : Type 0 where
   pub whole : c .offset + c .size ≤ length bytes
   pub room : 16 + c .count * c .stride ≤ c .size
   pub long : 12 ≤ c .stride
-  pub longer : c .version ≡ 1 → 16 ≤ c .stride
+  pub one : c .version ≡ 1 → c .stride ≡ 16
+  pub two : (c .version ≡ 1 → ⊥) → c .stride ≡ 12
 
 -- record number i of a chunk stands at offset k
 pub record Stands (c : Chunk) (i k : ℕ) : Type 0 where

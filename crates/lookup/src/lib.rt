@@ -6,7 +6,6 @@ ghost use Prim.Native.Nat.{_+_, _^_, _<_, _≤_};
 ghost use mathlib.Core.Option.{none, some};
 ghost use lib.ListN.{length};
 ghost use Rattle.failure.specs.Outcome.{Answer};
-ghost use Rattle.mem.specs.Wrapping.{signed32};
 ghost use Rattle.lookup.specs.Field.{word};
 ghost use Rattle.lookup.specs.Header as Header;
 ghost use Rattle.lookup.specs.Record.{startAt, endAt, addressOf, handlersOf, recordAt, recordAt2, recordIn, recordOf, badRecord};
@@ -202,20 +201,12 @@ fn head_at(part: &[u8], arch: u8, k: usize) -> Head
 
 // Records.
 
-// A 32-bit word read as a signed number, modulo 2^64: compiled to one instruction.
-fn extended(word: u32) -> usize
-    ensures { λ r. ⌜ r ≡ signed32 word ⌝ }
-{
-    let shifted = std::num::wrapping_add_u32(word, 0x8000_0000);
-    wrapping::add(shifted as usize, 0xffff_ffff_8000_0000)
-}
-
 // The start that the record at offset k gives.
 fn start_at(part: &[u8], base: usize, k: usize) -> usize
     requires { ⌜ k + 4 ≤ length (now part) ⌝ }
     ensures { λ r. ⌜ r ≡ startAt (now (part .entry)) base k ⌝ }
 {
-    wrapping::add(wrapping::add(base, k), extended(u32_at(part, k)))
+    wrapping::add(wrapping::add(base, k), wrapping::extend(u32_at(part, k)))
 }
 
 // The end that the record at offset k gives.
@@ -293,24 +284,55 @@ fn rec(part: &[u8], base: usize, c: Chunk, k: usize) -> Record
 
 // The search of a chunk.
 
-// The last record whose start is at most pc, if the starts rise; the first where none is. Sums in place of branches, and as
-// many turns for every pc: no branch is guessed wrong.
+// The last record whose start is at most pc, if the starts rise; the first where none is. The `if` compiles to a choice, and
+// there are as many turns for every pc: no branch is guessed wrong.
 fn halve(part: &[u8], base: usize, c: Chunk, pc: usize) -> usize
     requires { ⌜ Inside (now part) c × (0 < c .count) ⌝ }
     ensures { λ r. ⌜ Stands c (halved (now (part .entry)) base c pc) r ⌝ }
 {
     let mut at = c.offset + HEADER;
     let mut width = c.count;
-    let mut most = c.count;
-    while 1 < most {
-        let half = width / 2;
-        let skip = half * c.stride;
-        let up = (start_at(part, base, at + skip) <= pc) as usize;
-        at = at + skip * up;
-        width = half + width % 2 * up;
-        most = most - most / 2;
+    let mut half = c.count / 2;
+    let mut turns = c.count - 1;
+    while 0 < turns {
+        let middle = at + half * c.stride;
+        let down = pc < start_at(part, base, middle);
+        if !down {
+            at = middle;
+        }
+        let twice = width + 1 - down as usize;
+        width = twice / 2;
+        half = twice / 4;
+        turns = turns / 2;
     }
     at
+}
+
+// The same, by a stride that the compiler knows: a turn is shorter so.
+fn halve_by(part: &[u8], base: usize, c: Chunk, pc: usize) -> usize
+    requires { ⌜ Inside (now part) c × (0 < c .count) ⌝ }
+    ensures { λ r. ⌜ Stands c (halved (now (part .entry)) base c pc) r ⌝ }
+{
+    if c.version == VERSION {
+        return halve(
+            part,
+            base,
+            Chunk {
+                stride: RECORD,
+                ..c
+            },
+            pc,
+        );
+    }
+    halve(
+        part,
+        base,
+        Chunk {
+            stride: RECORD2,
+            ..c
+        },
+        pc,
+    )
 }
 
 // The left neighbour of the record at offset k ends above its start.
@@ -378,7 +400,7 @@ fn search_in(part: &[u8], base: usize, c: Chunk, pc: usize) -> Searched
     if end_at(part, base, first + (c.count - 1) * c.stride) <= pc {
         return Searched::NotHeld;
     }
-    settle(part, base, c, pc, halve(part, base, c, pc))
+    settle(part, base, c, pc, halve_by(part, base, c, pc))
 }
 
 // Lookup.

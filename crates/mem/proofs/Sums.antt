@@ -1,9 +1,11 @@
 -- The definitions of sums that wrap are addition and subtraction modulo 2^64, signed displacements included. Assumes nothing.
-use mathlib.Core.Path.{_≡_, _∙_, ap}
+use mathlib.Core.Path.{_≡_, refl, _∙_, ap}
+use mathlib.Core.Bool.{Bool, true, false}
 use Prim.Native.Nat.{ℕ, _+_, _-_, _^_, _%_, _≤_, _<_}
 use native.Mathlib.Nat.{mod-add-mod, add-mod-right}
 use native.Mathlib.Omega.{arith}
-use borrow.Author.Tests.{lt-ltb, le-ltb}
+use lib.Dec.{ltb}
+use borrow.Author.Tests.{lt-ltb, le-ltb, ltb-true, ltb-false}
 use Rattle.mem.specs.Wrapping.{sum, difference, signed32}
 
 -- adding b to a - b gives a again
@@ -21,3 +23,11 @@ pub signed-back : (a w : ℕ) → 2 ^ 31 ≤ w → w < 2 ^ 32 → sum a (signed3
 signed-back a w low high =
     let same : a + (w + (2 ^ 64 - 2 ^ 32)) ≡ a + (2 ^ 64 - (2 ^ 32 - w)) = omega arith in
     rw (le-ltb w (2 ^ 31) low) (ap (λ (x : ℕ). x % 2 ^ 64) same)
+
+-- a word that is moved up by 2^31, modulo 2^32, and down again is read as a signed number
+pub signed-made : (w s r : ℕ) → w < 2 ^ 32 → s ≡ (w + 2 ^ 31) % 2 ^ 32 → r ≡ sum s (2 ^ 64 - 2 ^ 31) → r ≡ signed32 w
+signed-made w s r h p q = go (ltb w (2 ^ 31)) refl
+  where
+    go : (t : Bool) → ltb w (2 ^ 31) ≡ t → r ≡ signed32 w
+    go true e = rw e (omega (arith, ltb-true w (2 ^ 31) e))
+    go false e = rw e (omega (arith, ltb-false w (2 ^ 31) e))

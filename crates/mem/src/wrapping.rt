@@ -19,12 +19,10 @@ pub fn sub(a: usize, b: usize) -> usize
     a + (usize::MAX - b) + 1
 }
 
-// A 32-bit word read as a signed number, modulo 2^64.
+// A 32-bit word read as a signed number, modulo 2^64: compiled to one instruction.
 pub fn extend(word: u32) -> usize
     ensures { λ r. ⌜ r ≡ Wrapping.signed32 word ⌝ }
 {
-    if word < 0x8000_0000 {
-        return word as usize;
-    }
-    word as usize + 0xffff_ffff_0000_0000
+    let shifted = std::num::wrapping_add_u32(word, 0x8000_0000);
+    add(shifted as usize, 0xffff_ffff_8000_0000)
 }

@@ -6,22 +6,24 @@ use Prim.Native.Nat.{ℕ, suc, _+_, _-_, _*_, _/_, _^_, _≤_, _<_}
 use native.Mathlib.Nat.{mod-eq-of-lt}
 use native.Mathlib.Numerals.{add-one}
 use native.Mathlib.Omega.{arith}
-use lib.Dec.{ltb, leb, eqb}
+use lib.Dec.{ltb, leb}
 use lib.ListN.{length, getD, take, drop}
 use lib.Seq.{drop-cons}
-use borrow.Author.Tests.{ltb-true, ltb-false, leb-true, leb-false, eqb-true, eqb-false, lt-ltb, le-ltb}
+use mir.Val.{boolByte}
+use borrow.Author.Tests.{ltb-true, ltb-false, leb-true}
+use Rattle.failure.specs.Choice.{if_then_else_}
 use Rattle.failure.specs.Outcome.{Outcome, Answer}
 use Rattle.mem.specs.Memory.{Memory}
 use Rattle.mem.specs.Place.{holds, bytesAt}
 use Rattle.mem.specs.Word.{littleEndian, load}
 use Rattle.mem.specs.Wrapping.{sum}
 use Rattle.mem.proofs.Place.{holds-when}
-use Rattle.rows.specs.Row.{Found}
+use Rattle.rows.specs.Row.{Found, None}
 use Rattle.rows.specs.Handler.{Entry, row, entryAt, leftBreaks, rightBreaks, judged, handler}
-use Rattle.rows.specs.Held.{alone, Whole, Held, judgedAt, lesser, kept}
+use Rattle.rows.specs.Held.{wordAt, alone, Whole, Held, number, RowAt, judgedAt}
 use Rattle.rows.proofs.Entries.{entry-whole, left-none, left-seen, right-none, right-seen}
 use Rattle.rows.proofs.Section.{handler-same}
-use Rattle.rows.proofs.Halving.{Left, begin, turn-found, turn-above, turn-below}
+use Rattle.rows.proofs.Halving.{Left, begin, over, turn-found, turn-above, turn-below}
 
 -- the number in some bytes is the first one and 256 times the number in the others
 pub word-more : (b : List ℕ) (k j n : ℕ) → j ≡ k + 1 → k < length b →
@@ -33,13 +35,10 @@ pub four : (b : List ℕ) (k : ℕ) → k + 4 ≤ length b →
 four b k h =
     omega (arith, word-more b k (k + 1) 3 (omega arith) (omega arith), word-more b (k + 1) (k + 2) 2 (omega arith) (omega arith), word-more b (k + 2) (k + 3) 1 (omega arith) (omega arith), word-more b (k + 3) (k + 4) 0 (omega arith) (omega arith))
 
--- a comparison with the next number
-beats : (a b d : ℕ) → d ≡ 1 → ltb a (b + d) ≡ leb a b
-beats a b d e = go (leb a b) refl
-  where
-    go : (t : Bool) → leb a b ≡ t → ltb a (b + d) ≡ leb a b
-    go true t = lt-ltb a (b + d) (omega (arith, leb-true a b t)) ∙ sym t
-    go false t = le-ltb a (b + d) (omega (arith, leb-false a b t)) ∙ sym t
+-- a test counts at most 1
+pub test-small : (t : Bool) → boolByte t ≤ 1
+test-small true = omega arith
+test-small false = omega arith
 
 -- a test that failed says nothing
 pub never : {A : Type 0} → false ≡ true → A
@@ -60,14 +59,21 @@ module _ (section : List ℕ) (base : ℕ) where
   unfolding load bytesAt
   load-in a l h = rw (holds-when base (length section) a 4 l h)
 
+  -- the word at an offset is the one at its address
+  pub read-at : (k v a : ℕ) → v ≡ wordAt section k → base + k ≡ a → k + 4 ≤ length section → Answer v ≡ load (alone section base) 4 a
+  read-at k v a p q h =
+      let e : k ≡ a - base = omega arith in
+      ap Answer (p ∙ ap (wordAt section) e) ∙ load-in a (omega arith) (omega arith)
+
   -- the test that a table lies whole in the section, which has so many bytes from its address on
-  pub held : (table count : ℕ) → base + length section ≤ 2 ^ 64 → base ≤ table → Answer count ≡ load (alone section base) 4 table →
+  pub held : (table count : ℕ) → base + length section ≤ 2 ^ 64 → base ≤ table → count ≡ wordAt section (table - base) →
       count < 2 ^ 32 → (rest : ℕ) → table + rest ≡ base + length section → leb (4 + 12 * count) rest ≡ true → Held section base table
-  held table count low above counted few rest e fits =
+  held table count low above is few rest e fits =
+      let whole : 4 + 12 * count ≤ rest = leb-true (4 + 12 * count) rest fits in
       record {
         count = count;
-        counted = counted;
-        whole = record { low = low; above = above; whole = omega (arith, leb-true (4 + 12 * count) rest fits); few = few };
+        counted = read-at (table - base) count table is (omega arith) (omega arith);
+        whole = record { low = low; above = above; whole = omega arith; few = few };
       }
 
   -- as many rows as the table says
@@ -84,12 +90,6 @@ module _ (section : List ℕ) (base : ℕ) where
   handler-lent table h rest ret =
       let w = h .whole in
       sym (handler-same (record { base = base; bytes = section }) rest [] table (h .count) (w .above) (w .whole) (w .low) ret (sym (h .counted)))
-
-  -- all rows are left at first
-  pub begin-in : (table ret count : ℕ) → Answer count ≡ load (alone section base) 4 table → Left (alone section base) table count ret 0 (0 + count)
-  begin-in table ret count e =
-      let all : count ≡ 0 + count = omega arith in
-      subst (λ (k : ℕ). Left (alone section base) table count ret 0 k) all (begin (alone section base) table ret count e)
 
   module _ (table count : ℕ) (w : Whole section base table count) where
     -- a word of row i
@@ -117,79 +117,133 @@ module _ (section : List ℕ) (base : ℕ) where
     entry-there i offset h p =
         entry-in i offset (word (table + 8 + 12 * i)) (word (table + 12 + 12 * i)) h p (there 8 i h (omega arith)) (there 12 i h (omega arith))
 
-    -- the neighbours of row i: a row that has none on a side is compared with itself
-    module _ (i offset : ℕ) (h : i < count) (p : Answer offset ≡ load (alone section base) 4 (table + 4 + 12 * i)) where
-      itself : (j v : ℕ) → Answer v ≡ load (alone section base) 4 (table + 4 + 12 * j) → j ≡ i → v ≡ offset
-      itself j v q e =
-          let r : Answer v ≡ Answer offset = q ∙ ap (λ (x : ℕ). load (alone section base) 4 (table + 4 + 12 * x)) e ∙ sym p in
-          cc
+    -- the words of the row at offset k, and of its neighbours
+    module _ (k offset : ℕ) (r : RowAt section base table count k offset) where
+      abbrev i : ℕ
+      i = number base table k
 
-      pub left-in : (j v : ℕ) → j ≡ i - 1 → Answer v ≡ load (alone section base) 4 (table + 4 + 12 * j) →
-          Answer (ltb offset (v + (i - j))) ≡ leftBreaks (alone section base) table i offset
-      left-in j v e q = go (eqb i 0) refl
+      -- a word so many bytes from offset k, in row j
+      near : (j d l v : ℕ) → j < count → d ≤ 12 → base + l ≡ table + d + 12 * j → v ≡ wordAt section l →
+          Answer v ≡ load (alone section base) 4 (table + d + 12 * j)
+      near j d l v h f e p = read-at l v (table + d + 12 * j) p e (omega (arith, w .whole))
+
+      pub here : Answer (entry-of i offset) ≡ entryAt (alone section base) table i
+      here = entry-there i offset (r .inside) (near i 4 k offset (r .inside) (omega arith) (r .place) (r .read))
+
+      pub row-here : (pad action : ℕ) → pad ≡ wordAt section (k + 4) → action ≡ wordAt section (k + 8) →
+          Answer (row offset pad action) ≡ entryAt (alone section base) table i
+      row-here pad action p q =
+          entry-in i offset pad action (r .inside) (near i 4 k offset (r .inside) (omega arith) (r .place) (r .read))
+          (near i 8 (k + 4) pad (r .inside) (omega arith) (omega (arith, r .place)) p)
+          (near i 12 (k + 8) action (r .inside) (omega arith) (omega (arith, r .place)) q)
+
+      -- row j beside it
+      beside : (j l v : ℕ) → j < count → base + l ≡ table + 4 + 12 * j → v ≡ wordAt section l →
+          Answer (entry-of j v) ≡ entryAt (alone section base) table j
+      beside j l v h e p = entry-there j v h (near j 4 l v h (omega arith) e p)
+
+      pub left-none-in : k ≡ table - base + 4 → Answer false ≡ leftBreaks (alone section base) table i offset
+      left-none-in e = left-none (alone section base) table i offset (omega (arith, w .above, r .place))
+
+      pub left-in : (k ≡ table - base + 4 → ⊥) → (v : ℕ) → v ≡ wordAt section (k - 12) →
+          Answer (leb offset v) ≡ leftBreaks (alone section base) table i offset
+      left-in n v p =
+          let some : i ≡ 0 → ⊥ = λ z. n (omega (arith, w .above, r .place)) in
+          left-seen (alone section base) table i offset (entry-of (i - 1) v) some
+          (beside (i - 1) (k - 12) v (omega (arith, r .inside)) (omega (arith, w .above, r .place)) p)
+
+      pub right-none-in : k + 12 ≡ table - base + 4 + 12 * count → Answer false ≡ rightBreaks (alone section base) table count i offset
+      right-none-in e = right-none (alone section base) table i count offset (omega (arith, w .above, r .place))
+
+      pub right-there : (k + 12 ≡ table - base + 4 + 12 * count → ⊥) → k + 12 + 4 ≤ length section
+      right-there n = omega (arith, r .place, r .inside, w .above, w .whole, n)
+
+      pub right-in : (k + 12 ≡ table - base + 4 + 12 * count → ⊥) → (v : ℕ) → v ≡ wordAt section (k + 12) →
+          Answer (leb v offset) ≡ rightBreaks (alone section base) table count i offset
+      right-in n v p = go (ltb (i + 1) count) refl
         where
-          go : (t : Bool) → eqb i 0 ≡ t → Answer (ltb offset (v + (i - j))) ≡ leftBreaks (alone section base) table i offset
+          go : (t : Bool) → ltb (i + 1) count ≡ t → Answer (leb v offset) ≡ rightBreaks (alone section base) table count i offset
           go true t =
-              let z : i ≡ 0 = eqb-true i 0 t in
-              ap Answer (le-ltb offset (v + (i - j)) (omega (arith, itself j v q (omega arith)))) ∙ left-none (alone section base) table i offset z
-          go false t =
-              let z : i ≡ 0 → ⊥ = eqb-false i 0 t in
-              let one : i - j ≡ 1 = omega arith in
-              let x = subst (λ (k : ℕ). Answer v ≡ load (alone section base) 4 (table + 4 + 12 * k)) e q in
-              ap Answer (beats offset v (i - j) one)
-              ∙ left-seen (alone section base) table i offset (entry-of (i - 1) v) z (entry-there (i - 1) v (omega arith) x)
+              let h = ltb-true (i + 1) count t in
+              right-seen (alone section base) table i count offset (entry-of (i + 1) v) h
+              (beside (i + 1) (k + 12) v h (omega (arith, r .place)) p)
+          go false t = absurd (n (omega (arith, ltb-false (i + 1) count t, r .inside, w .above, r .place)))
 
-      pub right-in : (j v : ℕ) → j ≡ lesser (i + 1) (count - 1) → Answer v ≡ load (alone section base) 4 (table + 4 + 12 * j) →
-          Answer (ltb v (offset + (j - i))) ≡ rightBreaks (alone section base) table count i offset
-      right-in j v e q = go (ltb (i + 1) count) refl
-        where
-          go : (t : Bool) → ltb (i + 1) count ≡ t → Answer (ltb v (offset + (j - i))) ≡ rightBreaks (alone section base) table count i offset
-          go true t =
-              let z : i + 1 < count = ltb-true (i + 1) count t in
-              let one : j - i ≡ 1 = omega arith in
-              let next : j ≡ i + 1 = omega arith in
-              let x = subst (λ (k : ℕ). Answer v ≡ load (alone section base) 4 (table + 4 + 12 * k)) next q in
-              ap Answer (beats v offset (j - i) one)
-              ∙ right-seen (alone section base) table i count offset (entry-of (i + 1) v) z (entry-there (i + 1) v z x)
-          go false t =
-              let z : count ≤ i + 1 = ltb-false (i + 1) count t in
-              ap Answer (le-ltb v (offset + (j - i)) (omega (arith, itself j v q (omega arith)))) ∙ right-none (alone section base) table i count offset z
+-- n rows are left, the first of them at offset at
+pub record LeftIn (section : List ℕ) (base table count ret at n : ℕ) : Type 0 where
+  pub whole : Whole section base table count
+  pub lo : ℕ
+  pub place : base + at ≡ table + 4 + 12 * lo
+  pub left : Left (alone section base) table count ret lo (lo + n)
 
-    -- a turn of the halving: n rows are left from lo on
-    module _ (ret lo n : ℕ) (s : Left (alone section base) table count ret lo (lo + n)) (some : 0 < n)
-        (offset : ℕ) (p : Answer offset ≡ load (alone section base) 4 (table + 4 + 12 * (lo + n / 2))) where
-      middle : lo + n / 2 ≡ lo + (lo + n - lo) / 2
-      middle = omega arith
+module _ (section : List ℕ) (base table ret count : ℕ) where
+  -- all rows are left at first
+  pub begin-in : Held section base table → count ≡ wordAt section (table - base) →
+      LeftIn section base table count ret (table - base + 4) count
+  begin-in h e =
+      let w = h .whole in
+      let counted = read-at section base (table - base) count table e (omega (arith, w .above)) (omega (arith, w .above, w .whole)) in
+      let all : count ≡ 0 + count = omega arith in
+      record {
+        whole = whole-of section base table h count counted;
+        lo = 0;
+        place = omega (arith, w .above);
+        left = subst (λ (k : ℕ). Left (alone section base) table count ret 0 k) all (begin (alone section base) table ret count counted);
+      }
 
-      read : Answer (entry-of (lo + n / 2) offset) ≡ entryAt (alone section base) table (lo + (lo + n - lo) / 2)
-      read =
-          entry-there (lo + n / 2) offset (omega (arith, s .within)) p ∙ ap (λ (k : ℕ). entryAt (alone section base) table k) middle
+  pub room-in : (at n : ℕ) → LeftIn section base table count ret at n → 0 < n → at + 12 * (n / 2) + 12 ≤ length section
+  room-in at n s h = omega (arith, s .place, s .left .within, s .whole .above, s .whole .whole)
 
-      pub turn-found-in : offset ≡ ret → (o : Outcome Found) → o ≡ judgedAt (alone section base) table count (lo + n / 2) →
-          o ≡ handler (alone section base) table ret
-      unfolding judgedAt
-      turn-found-in is o q =
-          turn-found (alone section base) table ret count lo (lo + n) s (omega arith) (entry-of (lo + n / 2) offset) read is o
-          (q ∙ ap (λ (k : ℕ). judgedAt (alone section base) table count k) middle ∙ rw (sym read))
+  -- a turn: the row in the middle
+  module _ (at n : ℕ) (s : LeftIn section base table count ret at n) (some : 0 < n)
+      (offset : ℕ) (p : offset ≡ wordAt section (at + 12 * (n / 2))) where
+    mid : number base table (at + 12 * (n / 2)) ≡ s .lo + n / 2
+    mid = omega (arith, s .place)
 
-      pub turn-in : (offset ≡ ret → ⊥) → (a b : ℕ) → a ≡ kept offset ret (n / 2 + 1) → b ≡ kept offset ret 1 →
-          Left (alone section base) table count ret (lo + a) (lo + a + (n - b) / 2)
-      turn-in other a b u v = go (ltb offset ret) refl
-        where
-          moved : (l h : ℕ) → l ≡ lo + a → h ≡ lo + a + (n - b) / 2 → Left (alone section base) table count ret l h →
-              Left (alone section base) table count ret (lo + a) (lo + a + (n - b) / 2)
-          moved l h d e x =
-              subst (λ (k : ℕ). Left (alone section base) table count ret (lo + a) k) e
-              (subst (λ (k : ℕ). Left (alone section base) table count ret k h) d x)
+    middle : s .lo + n / 2 ≡ s .lo + (s .lo + n - s .lo) / 2
+    middle = omega arith
 
-          go : (t : Bool) → ltb offset ret ≡ t → Left (alone section base) table count ret (lo + a) (lo + a + (n - b) / 2)
-          go true t =
-              let x : a ≡ n / 2 + 1 = rw t at u in
-              let y : b ≡ 1 = rw t at v in
-              moved (lo + (lo + n - lo) / 2 + 1) (lo + n) (omega (arith, middle)) (omega arith)
-              (turn-above (alone section base) table ret count lo (lo + n) s (omega arith) (entry-of (lo + n / 2) offset) read other (ltb-true offset ret t))
-          go false t =
-              let x : a ≡ 0 = rw t at u in
-              let y : b ≡ 0 = rw t at v in
-              moved lo (lo + (lo + n - lo) / 2) (omega arith) (omega (arith, middle))
-              (turn-below (alone section base) table ret count lo (lo + n) s (omega arith) (entry-of (lo + n / 2) offset) read other (ltb-false offset ret t))
+    pub row-middle : RowAt section base table count (at + 12 * (n / 2)) offset
+    row-middle =
+        record {
+          whole = s .whole;
+          inside = omega (arith, mid, s .left .within);
+          place = omega (arith, mid, s .place);
+          read = p;
+        }
+
+    abbrev it : Entry
+    it = entry-of section base table count (s .whole) (number base table (at + 12 * (n / 2))) offset
+
+    read : Answer it ≡ entryAt (alone section base) table (s .lo + (s .lo + n - s .lo) / 2)
+    read =
+        here section base table count (s .whole) (at + 12 * (n / 2)) offset row-middle
+        ∙ ap (λ (k : ℕ). entryAt (alone section base) table k) (mid ∙ middle)
+
+    pub turn-found-in : offset ≡ ret → (o : Outcome Found) →
+        o ≡ judgedAt (alone section base) table count (number base table (at + 12 * (n / 2))) → o ≡ handler (alone section base) table ret
+    unfolding judgedAt
+    turn-found-in is o q =
+        turn-found (alone section base) table ret count (s .lo) (s .lo + n) (s .left) (omega arith) it read is o
+        (q ∙ ap (λ (k : ℕ). judgedAt (alone section base) table count k) (mid ∙ middle) ∙ rw (sym read))
+
+    module _ (other : offset ≡ ret → ⊥) where
+      -- the rows left from lo to hi, by where the first of them stands and how many they are
+      left-at : (l h next m : ℕ) → base + next ≡ table + 4 + 12 * l → h ≡ l + m → Left (alone section base) table count ret l h →
+          LeftIn section base table count ret next m
+      left-at l h next m e f x =
+          record { whole = s .whole; lo = l; place = e; left = subst (λ (k : ℕ). Left (alone section base) table count ret l k) f x }
+
+      pub turn-in : (down : Bool) → ltb ret offset ≡ down → (next : ℕ) → next ≡ (if down then at else at + 12 * (n / 2) + 12) →
+          LeftIn section base table count ret next ((n - 1 + boolByte (ltb ret offset)) / 2)
+      turn-in true t next e =
+          rw t
+          (left-at (s .lo) (s .lo + (s .lo + n - s .lo) / 2) next ((n - 1 + 1) / 2) (omega (arith, s .place)) (omega arith)
+          (turn-below (alone section base) table ret count (s .lo) (s .lo + n) (s .left) (omega arith) it read other (omega (arith, ltb-true ret offset t))))
+      turn-in false t next e =
+          rw t
+          (left-at (s .lo + (s .lo + n - s .lo) / 2 + 1) (s .lo + n) next ((n - 1 + 0) / 2) (omega (arith, s .place)) (omega arith)
+          (turn-above (alone section base) table ret count (s .lo) (s .lo + n) (s .left) (omega arith) it read other (omega (arith, ltb-false ret offset t, other))))
+
+  pub over-in : (at n : ℕ) → LeftIn section base table count ret at n → n ≤ 0 → Answer None ≡ handler (alone section base) table ret
+  over-in at n s h = over (alone section base) table ret count (s .lo) (s .lo + n) (s .left) (omega arith)

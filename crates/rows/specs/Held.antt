@@ -1,15 +1,17 @@
 -- What is read in the section alone; a version 1 table that lies whole in it.
 use mathlib.Core.Path.{_≡_}
 use mathlib.Core.List.{List, [], _∷_}
-use Prim.Native.Nat.{ℕ, _+_, _-_, _*_, _^_, _≤_, _<_}
-use lib.Dec.{ltb}
-use lib.ListN.{length}
-use Rattle.failure.specs.Choice.{if_then_else_}
+use Prim.Native.Nat.{ℕ, _+_, _-_, _*_, _/_, _^_, _≤_, _<_}
+use lib.ListN.{length, take, drop}
 use Rattle.failure.specs.Outcome.{Outcome, Answer, _>>=_}
 use Rattle.mem.specs.Memory.{Memory}
-use Rattle.mem.specs.Word.{load}
+use Rattle.mem.specs.Word.{littleEndian, load}
 use Rattle.rows.specs.Row.{Found}
 use Rattle.rows.specs.Handler.{entryAt, judged}
+
+-- the word at offset k
+abbrev pub wordAt : List ℕ → ℕ → ℕ
+wordAt section k = littleEndian (take 4 (drop k section))
 
 -- the section, and the rest of what is lent
 abbrev pub first : List ℕ → ℕ → Memory → Memory
@@ -32,23 +34,19 @@ pub record Held (section : List ℕ) (base table : ℕ) : Type 0 where
   pub counted : Answer count ≡ load (alone section base) 4 table
   pub whole : Whole section base table count
 
--- row i of such a table has the return offset
-pub record RowAt (section : List ℕ) (base table count i offset : ℕ) : Type 0 where
+-- which row of the table stands at offset k of the section
+abbrev pub number : ℕ → ℕ → ℕ → ℕ
+number base table k = (base + k - (table + 4)) / 12
+
+-- a row of such a table stands at offset k, and has the return offset
+pub record RowAt (section : List ℕ) (base table count k offset : ℕ) : Type 0 where
   pub whole : Whole section base table count
-  pub inside : i < count
-  pub read : Answer offset ≡ load (alone section base) 4 (table + 4 + 12 * i)
-  pub small : offset < 2 ^ 32
+  pub inside : number base table k < count
+  pub place : base + k ≡ table + 4 + 12 * number base table k
+  pub read : offset ≡ wordAt section k
 
 -- row i, read and judged
 unfoldable pub judgedAt : Memory → ℕ → ℕ → ℕ → Outcome Found
 judgedAt m table count i = do
   e ← entryAt m table i
   judged m table count i e
-
--- the smaller of two numbers
-abbrev pub lesser : ℕ → ℕ → ℕ
-lesser a b = a - (a - b)
-
--- x where a is below b, else 0
-abbrev pub kept : ℕ → ℕ → ℕ → ℕ
-kept a b x = if ltb a b then x else 0

@@ -5,11 +5,10 @@ ghost use Prim.Native.Nat.{_+_, _-_, _*_, _^_, _<_, _≤_};
 ghost use lib.ListN.{length};
 ghost use Rattle.failure.specs.Outcome.{Answer};
 ghost use Rattle.mem.specs.Memory.{lent};
-ghost use Rattle.mem.specs.Word.{load};
 ghost use Rattle.rows.specs.Row.{found};
 ghost use Rattle.rows.specs.Handler as Handler;
 ghost use Rattle.rows.specs.Answers.{entry, breaks};
-ghost use Rattle.rows.specs.Held.{alone, Held, RowAt, judgedAt, lesser, kept};
+ghost use Rattle.rows.specs.Held.{wordAt, alone, Held, number, RowAt, judgedAt};
 use crate::Row;
 use crate::checked;
 use crate::wide;
@@ -214,15 +213,13 @@ fn handler_anywhere<'a>(
     Row::None
 }
 
-// A table that lies whole in the section: no read there is refused. What cannot be foretold is computed and not branched on:
-// which half the row is in, and whether it has neighbours.
+// A table that lies whole in the section: no read there is refused. A row is known by its offset in the section.
 
-// The u32 at an address in the section.
-fn u32_in(section: &[u8], base: usize, a: usize) -> usize
-    requires { ⌜ (base ≤ a) × (a + 4 ≤ base + length (now section)) ⌝ }
-    ensures { λ r. ⌜ (Answer r ≡ load (alone (now (section .entry)) base) 4 a) × (r < 2 ^ 32) ⌝ }
+// The u32 at an offset.
+fn u32_at(section: &[u8], k: usize) -> usize
+    requires { ⌜ k + 4 ≤ length (now section) ⌝ }
+    ensures { λ r. ⌜ (r ≡ wordAt (now (section .entry)) k) × (r < 2 ^ 32) ⌝ }
 {
-    let k = a - base;
     wide(section[k])
         + 0x100 * wide(section[k + 1])
         + 0x1_0000 * wide(section[k + 2])
@@ -247,60 +244,44 @@ fn is_held(section: &[u8], base: usize, table: usize) -> bool
     if rest < 4 {
         return false;
     }
-    4 + 12 * u32_in(section, base, table) <= rest
+    4 + 12 * u32_at(section, k) <= rest
 }
 
-// The row before row i, row 0 for itself.
-fn row_before(i: usize) -> usize
-    ensures { λ r. ⌜ r ≡ i - 1 ⌝ }
-{
-    if i == 0 {
-        return 0;
-    }
-    i - 1
-}
-
-// The row after row i, the last row for itself.
-fn row_after(i: usize, count: usize) -> usize
-    requires { ⌜ i < count ⌝ }
-    ensures { λ r. ⌜ r ≡ lesser (i + 1) (count - 1) ⌝ }
-{
-    if i + 1 < count {
-        return i + 1;
-    }
-    i
-}
-
-// Whether the left neighbour is not below the row; row 0 is compared with itself.
+// Whether the left neighbour, if there is one, is not below the row.
 fn left_breaks_in(
     section: &[u8],
     base: usize,
     table: usize,
     count: usize,
-    i: usize,
+    k: usize,
     offset: usize,
 ) -> bool
-    requires { ⌜ RowAt (now section) base table count i offset ⌝ }
-    ensures { λ r. ⌜ Answer r ≡ Handler.leftBreaks (alone (now (section .entry)) base) table i offset ⌝ }
+    requires { ⌜ RowAt (now section) base table count k offset ⌝ }
+    ensures { λ r. ⌜ Answer r ≡ Handler.leftBreaks (alone (now (section .entry)) base) table (number base table k) offset ⌝ }
 {
-    let left = row_before(i);
-    offset < u32_in(section, base, table + 4 + 12 * left) + (i - left)
+    if k == table - base + 4 {
+        return false;
+    }
+    offset <= u32_at(section, k - 12)
 }
 
-// Whether the right neighbour is not above the row; the last row is compared with itself.
+// Whether the right neighbour, if there is one, is not above the row.
 fn right_breaks_in(
     section: &[u8],
     base: usize,
     table: usize,
     count: usize,
-    i: usize,
+    k: usize,
     offset: usize,
 ) -> bool
-    requires { ⌜ RowAt (now section) base table count i offset ⌝ }
-    ensures { λ r. ⌜ Answer r ≡ Handler.rightBreaks (alone (now (section .entry)) base) table count i offset ⌝ }
+    requires { ⌜ RowAt (now section) base table count k offset ⌝ }
+    ensures { λ r. ⌜ Answer r ≡ Handler.rightBreaks (alone (now (section .entry)) base) table count (number base table k) offset ⌝ }
 {
-    let right = row_after(i, count);
-    u32_in(section, base, table + 4 + 12 * right) < offset + (right - i)
+    let next = k + 12;
+    if next == table - base + 4 + 12 * count {
+        return false;
+    }
+    u32_at(section, next) <= offset
 }
 
 // A row that was found: its neighbours, left first, and then the row itself.
@@ -309,50 +290,41 @@ fn judged_in(
     base: usize,
     table: usize,
     count: usize,
-    i: usize,
+    k: usize,
     offset: usize,
 ) -> Row
-    requires { ⌜ RowAt (now section) base table count i offset ⌝ }
-    ensures { λ r. ⌜ found r ≡ judgedAt (alone (now (section .entry)) base) table count i ⌝ }
+    requires { ⌜ RowAt (now section) base table count k offset ⌝ }
+    ensures { λ r. ⌜ found r ≡ judgedAt (alone (now (section .entry)) base) table count (number base table k) ⌝ }
 {
-    if left_breaks_in(section, base, table, count, i, offset) {
+    if left_breaks_in(section, base, table, count, k, offset) {
         return Row::Refused(EKO_AMBIGUOUS_CALL_SITE);
     }
-    if right_breaks_in(section, base, table, count, i, offset) {
+    if right_breaks_in(section, base, table, count, k, offset) {
         return Row::Refused(EKO_AMBIGUOUS_CALL_SITE);
     }
-    let pad = u32_in(section, base, table + 8 + 12 * i);
-    let action = u32_in(section, base, table + 12 + 12 * i);
-    checked(pad, action)
+    checked(u32_at(section, k + 4), u32_at(section, k + 8))
 }
 
-// x where a is below b, else 0.
-fn kept(a: usize, b: usize, x: usize) -> usize
-    ensures { λ r. ⌜ (r ≡ kept a b x) × (r ≤ x) ⌝ }
-{
-    if a < b {
-        return x;
-    }
-    0
-}
-
-// The row of a return offset in the table. The rows left are n from lo on.
+// The row of a return offset in the table. The rows left are n from offset at on. Which half the row is in is not branched on.
 fn handler_in(section: &[u8], base: usize, table: usize, ret: usize) -> Row
     requires { ⌜ Held (now section) base table ⌝ }
     ensures { λ r. ⌜ found r ≡ Handler.handler (alone (now (section .entry)) base) table ret ⌝ }
 {
-    let count = u32_in(section, base, table);
-    let mut lo: usize = 0;
+    let start = table - base;
+    let count = u32_at(section, start);
+    let mut at = start + 4;
     let mut n = count;
     while 0 < n {
-        let half = n / 2;
-        let mid = lo + half;
-        let offset = u32_in(section, base, table + 4 + 12 * mid);
+        let middle = at + 12 * (n / 2);
+        let offset = u32_at(section, middle);
         if offset == ret {
-            return judged_in(section, base, table, count, mid, offset);
+            return judged_in(section, base, table, count, middle, offset);
         }
-        lo = lo + kept(offset, ret, half + 1);
-        n = (n - kept(offset, ret, 1)) / 2;
+        let down = ret < offset;
+        if !down {
+            at = middle + 12;
+        }
+        n = (n - 1 + down as usize) / 2;
     }
     Row::None
 }

@@ -1,74 +1,76 @@
--- `lookup::halve` meets its contract. The invariant is `Halved`; the measure is the most that is left to halve. Assumes nothing.
-use Prim.Native.Nat.{_*_, _/_, _%_}
+-- `lookup::halve` meets its contract. The invariant is `Halved`; the measure is what is left of the turns. Assumes nothing.
+use mathlib.Core.Bool.{true, false}
+use mathlib.Core.Logic.{⊎-elim}
+use mathlib.Core.Path.{_≡_, refl}
+use Prim.Native.Nat.{_/_}
 use native.Mathlib.Omega.{arith}
-use lib.Dec.{leb}
+use lib.Dec.{ltb}
 use borrow.Author.Needs.{needs}
-use Rattle.lookup.proofs.Halving.{Halved, halved-begin, halved-room, halved-turn, halved-over, times-test}
+use borrow.Author.Tests.{not-true, not-false}
+use Rattle.lookup.proofs.Halving.{Halved, halved-begin, halved-room, halved-few, halved-turn, halved-over, test-small}
 use Rattle.lookup.proofs.halve.Statement.{statement}
 use Rattle.lookup.proofs.halve.Tie as tie
 
 abbrev Inv-loop : tie.InvT-loop
-Inv-loop part base c pc at₀ width₀ most₀ at width most = Halved part base c pc at width most
+Inv-loop part base c pc at₀ width₀ half₀ turns₀ at width half turns = Halved part base c pc at width turns × (half ≡ width / 2)
 
 abbrev μ-loop : tie.MeasureT-loop
-μ-loop part base c pc at₀ width₀ most₀ at width most = most
+μ-loop part base c pc at₀ width₀ half₀ turns₀ at width half turns = turns
 
 add-at : tie.Need-add-at Inv-loop μ-loop
 add-at c = omega (arith, c .before .before .pre .0 .whole)
 
-loop-holds : tie.Need-loop-holds Inv-loop μ-loop
-loop-holds c = halved-begin _ _ _ _ (c .before .before .pre .1)
+sub-turns : tie.Need-sub-turns Inv-loop μ-loop
+sub-turns c = search needs
 
-mul-skip : tie.Need-mul-skip Inv-loop μ-loop
-mul-skip c =
+loop-holds : tie.Need-loop-holds Inv-loop μ-loop
+loop-holds c = (halved-begin _ _ _ _ (c .before .before .before .before .pre .1), refl)
+
+mul-middle : tie.Need-mul-middle Inv-loop μ-loop
+mul-middle c =
     let x = c .before .before in
-    let room = halved-room _ _ _ _ _ _ _ (x .loop .inv) (x .before .before .before .pre .0) in
+    let room = halved-room _ _ _ _ _ _ _ (x .loop .inv .0) _ (x .loop .inv .1) (x .before .before .before .before .before .pre .0) in
     omega arith
 
-add-start-at : tie.Need-add-start-at Inv-loop μ-loop
-add-start-at c =
+add-middle : tie.Need-add-middle Inv-loop μ-loop
+add-middle c =
     let x = c .before .before in
-    let room = halved-room _ _ _ _ _ _ _ (x .loop .inv) (x .before .before .before .pre .0) in
+    let room = halved-room _ _ _ _ _ _ _ (x .loop .inv .0) _ (x .loop .inv .1) (x .before .before .before .before .before .pre .0) in
     omega arith
 
 start-at-requires : tie.Need-start-at-requires Inv-loop μ-loop
 start-at-requires c κs =
     let x = c .before .before in
-    let room = halved-room _ _ _ _ _ _ _ (x .loop .inv) (x .before .before .before .pre .0) in
-    omega (arith, x .before .before .before .pre .0 .long)
+    let room = halved-room _ _ _ _ _ _ _ (x .loop .inv .0) _ (x .loop .inv .1) (x .before .before .before .before .before .pre .0) in
+    omega (arith, x .before .before .before .before .before .pre .0 .long)
 
-cast-up : tie.Need-cast-up Inv-loop μ-loop
-cast-up c = search needs
+add-twice : tie.Need-add-twice Inv-loop μ-loop
+add-twice c =
+    let x = c .before .before .before .before in
+    let few = halved-few _ _ _ _ _ _ _ (x .loop .inv .0) (x .before .before .before .before .before .pre .0) in
+    omega arith
 
-mul-at : tie.Need-mul-at Inv-loop μ-loop
-mul-at c =
-    let x = c .before .before .before in
-    let room = halved-room _ _ _ _ _ _ _ (x .loop .inv) (x .before .before .before .pre .0) in
-    omega (arith, times-test (x .loop .width / 2 * x .before .before .before .args .c .stride) (leb (c .start-at .result) (x .before .before .before .args .pc)))
+cast-twice : tie.Need-cast-twice Inv-loop μ-loop
+cast-twice c = search needs
 
-add-at-2 : tie.Need-add-at-2 Inv-loop μ-loop
-add-at-2 c =
-    let x = c .before .before .before in
-    let room = halved-room _ _ _ _ _ _ _ (x .loop .inv) (x .before .before .before .pre .0) in
-    omega (arith, times-test (x .loop .width / 2 * x .before .before .before .args .c .stride) (leb (c .start-at .result) (x .before .before .before .args .pc)))
-
-mul-width : tie.Need-mul-width Inv-loop μ-loop
-mul-width c = omega (arith, times-test (c .before .before .before .loop .width % 2) (leb (c .start-at .result) (c .before .before .before .before .before .before .args .pc)))
-
-add-width : tie.Need-add-width Inv-loop μ-loop
-add-width c = omega (arith, times-test (c .before .before .before .loop .width % 2) (leb (c .start-at .result) (c .before .before .before .before .before .before .args .pc)))
-
-sub-most : tie.Need-sub-most Inv-loop μ-loop
-sub-most c = omega arith
+sub-twice : tie.Need-sub-twice Inv-loop μ-loop
+sub-twice c = omega (arith, test-small (ltb (c .before .before .before .before .before .before .before .before .before .args .pc) (c .before .start-at .result)))
 
 loop-less : tie.Need-loop-less Inv-loop μ-loop
 loop-less c = omega arith
 
 loop-again : tie.Need-loop-again Inv-loop μ-loop
-loop-again c = halved-turn _ _ _ _ _ _ _ (c .before .before .before .loop .inv) _ (c .start-at .ensures)
+loop-again c =
+    let l = c .before .before .before .before in (
+      ⊎-elim
+          (λ w. halved-turn _ _ _ _ _ _ _ (l .loop .inv .0) _ (l .loop .inv .1) _ (c .before .start-at .ensures) false (not-true _ (w .0 .taken)) _ (w .1))
+          (λ w. halved-turn _ _ _ _ _ _ _ (l .loop .inv .0) _ (l .loop .inv .1) _ (c .before .start-at .ensures) true (not-false _ (w .0 .left)) _ (w .1))
+          (c .if1 .came),
+      omega arith,
+    )
 
 returns : tie.Need-returns Inv-loop μ-loop
-returns c = halved-over _ _ _ _ _ _ _ (c .before .loop .inv) (c .loop-test .left)
+returns c = halved-over _ _ _ _ _ _ _ (c .before .loop .inv .0) (c .loop-test .left)
 
 pub halve-spec : {M : Type 1} → statement M
 halve-spec =
@@ -77,16 +79,14 @@ halve-spec =
     Inv-loop
     μ-loop
     add-at
+    sub-turns
     loop-holds
-    mul-skip
-    add-start-at
+    mul-middle
+    add-middle
     start-at-requires
-    cast-up
-    mul-at
-    add-at-2
-    mul-width
-    add-width
-    sub-most
+    add-twice
+    cast-twice
+    sub-twice
     loop-less
     loop-again
     returns)

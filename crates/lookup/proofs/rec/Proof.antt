@@ -14,7 +14,7 @@ record-at-requires : tie.Need-record-at-requires
 record-at-requires c κs =
     let s = c .before .before .before .before in
     let room = stands-room _ _ (s .pre .0) _ _ (s .pre .1 .stands) in
-    omega (arith, s .pre .0 .longer (c .if1 .taken))
+    omega (arith, s .pre .0 .one (c .if1 .taken))
 
 returns : tie.Need-returns
 returns c = simp (eq-eqb _ _ (c .before .if1 .taken)) (rw (sym (c .before .before .before .add .ensures)) (c .record-at .ensures))

@@ -53,8 +53,8 @@ returns-3 c =
     let last = last-stands (x .args .c) (omega arith) in
     (search-shut _ _ _ _ (gate-above _ _ _ (rw (e .end-at .ensures ∙ stands-end _ _ _ _ _ last) at (c .if3 .taken))), tt)
 
-halve-requires : tie.Need-halve-requires
-halve-requires c κs = search needs
+halve-by-requires : tie.Need-halve-by-requires
+halve-by-requires c κs = search needs
 
 settle-requires : tie.Need-settle-requires
 settle-requires c κs = search needs
@@ -86,6 +86,6 @@ search-in-spec =
     add-end-at
     end-at-requires
     returns-3
-    halve-requires
+    halve-by-requires
     settle-requires
     returns-4)

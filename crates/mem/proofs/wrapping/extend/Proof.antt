@@ -1,17 +1,21 @@
 -- `mem::wrapping::extend` meets its contract. Assumes nothing.
+use native.Mathlib.Omega.{arith}
+use Rattle.mem.proofs.Sums.{signed-made}
 use borrow.Author.Needs.{needs}
-use borrow.Author.Tests.{lt-ltb, le-ltb}
 use Rattle.mem.proofs.wrapping.extend.Statement.{statement}
 use Rattle.mem.proofs.wrapping.extend.Tie as tie
 
+wrapping-add-u32-requires : tie.Need-wrapping-add-u32-requires
+wrapping-add-u32-requires c κs = search needs
+
+cast-add : tie.Need-cast-add
+cast-add c = search needs
+
+add-requires : tie.Need-add-requires
+add-requires c κs = search needs
+
 returns : tie.Need-returns
-returns c = simp (lt-ltb _ _ (c .if1 .taken))
-
-add-result : tie.Need-add-result
-add-result c = search needs
-
-returns-2 : tie.Need-returns-2
-returns-2 c = simp (le-ltb _ _ (c .if1 .left))
+returns c = signed-made _ _ _ (omega arith) (c .before .wrapping-add-u32 .ensures) (c .add .ensures)
 
 pub extend-spec : {M : Type 1} → statement M
-extend-spec = tie.close (tie.spec returns add-result returns-2)
+extend-spec = tie.close (tie.spec wrapping-add-u32-requires cast-add add-requires returns)

@@ -23,8 +23,8 @@ sub-rest c = search needs
 returns-4 : tie.Need-returns-4
 returns-4 c = never
 
-u32-in-requires : tie.Need-u32-in-requires
-u32-in-requires c κs = search needs
+u32-at-requires : tie.Need-u32-at-requires
+u32-at-requires c κs = search needs
 
 mul-result : tie.Need-mul-result
 mul-result c = search needs
@@ -33,7 +33,7 @@ add-result : tie.Need-add-result
 add-result c = search needs
 
 returns-5 : tie.Need-returns-5
-returns-5 c = held _ _ _ _ (omega arith) (omega arith) (c .u32-in .ensures .0) (c .u32-in .ensures .1) _ (omega arith)
+returns-5 c = held _ _ _ _ (omega arith) (omega arith) (c .u32-at .ensures .0) (c .u32-at .ensures .1) _ (omega arith)
 
 pub is-held-spec : {M : Type 1} → statement M
 is-held-spec =
@@ -45,7 +45,7 @@ is-held-spec =
     returns-3
     sub-rest
     returns-4
-    u32-in-requires
+    u32-at-requires
     mul-result
     add-result
     returns-5)

@@ -1,45 +1,43 @@
 -- `rows::handler::left_breaks_in` meets its contract. Assumes nothing.
-use Rattle.rows.proofs.Held.{left-in}
+use native.Mathlib.Omega.{arith}
+use Rattle.rows.proofs.Held.{left-none-in, left-in}
 use borrow.Author.Needs.{needs}
 use Rattle.rows.proofs.handler.left_breaks_in.Statement.{statement}
 use Rattle.rows.proofs.handler.left_breaks_in.Tie as tie
 
-row-before-requires : tie.Need-row-before-requires
-row-before-requires c κs = search needs
+sub-if1 : tie.Need-sub-if1
+sub-if1 c = search needs
 
-add-u32-in : tie.Need-add-u32-in
-add-u32-in c = search needs
-
-mul-u32-in : tie.Need-mul-u32-in
-mul-u32-in c = search needs
-
-add-u32-in-2 : tie.Need-add-u32-in-2
-add-u32-in-2 c = search needs
-
-u32-in-requires : tie.Need-u32-in-requires
-u32-in-requires c κs = search needs
-
-sub-result : tie.Need-sub-result
-sub-result c = search needs
-
-add-result : tie.Need-add-result
-add-result c = search needs
+add-if1 : tie.Need-add-if1
+add-if1 c = search needs
 
 returns : tie.Need-returns
 returns c =
-    let l = c .before in
-    let p = l .before .before .pre in
-    left-in _ _ _ _ (p .whole) _ _ (p .inside) (p .read) _ _ (l .row-before .ensures) (c .u32-in .ensures .0)
+    let p = c .before .before .pre in
+    left-none-in _ _ _ _ (p .whole) _ _ p (c .if1 .taken)
+
+sub-u32-at : tie.Need-sub-u32-at
+sub-u32-at c =
+    let p = c .before .before .pre in
+    omega (arith, p .place, p .whole .above, c .if1 .left)
+
+u32-at-requires : tie.Need-u32-at-requires
+u32-at-requires c κs =
+    let p = c .before .before .pre in
+    omega (arith, p .place, p .inside, p .whole .whole)
+
+returns-2 : tie.Need-returns-2
+returns-2 c =
+    let p = c .before .before .before .pre in
+    left-in _ _ _ _ (p .whole) _ _ p (c .before .if1 .left) _ (c .u32-at .ensures .0)
 
 pub left-breaks-in-spec : {M : Type 1} → statement M
 left-breaks-in-spec =
     tie.close
     (tie.spec
-    row-before-requires
-    add-u32-in
-    mul-u32-in
-    add-u32-in-2
-    u32-in-requires
-    sub-result
-    add-result
-    returns)
+    sub-if1
+    add-if1
+    returns
+    sub-u32-at
+    u32-at-requires
+    returns-2)

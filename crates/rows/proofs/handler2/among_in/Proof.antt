@@ -3,7 +3,10 @@ use mathlib.Core.Path.{_≡_, refl, sym, _∙_, ap}
 use Prim.Native.Nat.{ℕ, suc, _-_, _≤_}
 use native.Mathlib.Omega.{arith}
 use Rattle.leb.proofs.Numbers.{small}
-use Rattle.rows.specs.Handler2.{rowsFrom}
+use Rattle.failure.specs.Outcome.{Answer}
+use Rattle.mem.specs.Memory.{Memory}
+use Rattle.leb.specs.Reader.{Read}
+use Rattle.rows.specs.Handler2.{uleb, rowsFrom}
 use Rattle.rows.specs.Held.{alone}
 use Rattle.rows.proofs.Short.{unsettled, said, row-past, row-here, row-on}
 use borrow.Author.Needs.{needs}
@@ -54,81 +57,68 @@ returns-2 c = unsettled _ refl
 returns-3 : tie.Need-returns-3 Inv-loop μ-loop
 returns-3 c = unsettled _ refl
 
+-- a turn in which both numbers were read
+module _ (e : tie.Else1 Inv-loop μ-loop) where
+  abbrev word-there : tie.After-word Inv-loop μ-loop
+  word-there = e .before .before
+
+  abbrev delta-there : tie.After-delta Inv-loop μ-loop
+  delta-there = word-there .before .before .before .before
+
+  abbrev begun : tie.In-loop Inv-loop μ-loop
+  begun = delta-there .before .before .before
+
+  abbrev start : tie.Start Inv-loop μ-loop
+  start = begun .before .before .before
+
+  abbrev delta : Read
+  delta = record { value = delta-there .delta .given .0 .0; next = delta-there .delta .given .0 .1 .0 }
+
+  abbrev word : Read
+  word = record { value = word-there .word .given .0 .0; next = word-there .word .given .0 .1 .0 }
+
+  abbrev m : Memory
+  m = alone (start .args .section .now) (start .args .base)
+
+  delta-read : Answer delta ≡ uleb m (start .args .limit) (begun .before .loop .pos)
+  delta-read = said _ _ _ _ (delta-there .before .before .number-in .ensures) (delta-there .delta .given .1)
+
+  word-read : Answer word ≡ uleb m (start .args .limit) (delta .next)
+  word-read = said _ _ _ _ (word-there .before .before .number-in2 .ensures) (word-there .word .given .1)
+
+  some-left : begun .before .loop .left ≡ suc (begun .before .loop .left - 1)
+  some-left = omega (arith, begun .loop-test .taken)
+
 add-at : tie.Need-add-at Inv-loop μ-loop
-add-at c =
-    let e = c in
-    let v = e .before .before in
-    let l2 = v .before .before in
-    let d = l2 .before .before in
-    let l = d .before .before in
-    let i = l .before in
-    let s = i .before .loop .inv in
-    let p = said _ _ _ _ (l .number-in .ensures) (d .delta .given .1) in
-    omega (arith, s .1, i .before .before .before .pre .2, small _ _ _ _ (sym p) .value)
+add-at c = omega (arith, begun c .before .loop .inv .1, start c .pre .2, small _ _ _ _ (sym (delta-read c)) .value)
 
 returns-4 : tie.Need-returns-4 Inv-loop μ-loop
 returns-4 c x =
     let e = c .before in
-    let v = e .before .before in
-    let l2 = v .before .before in
-    let d = l2 .before .before in
-    let l = d .before .before in
-    let i = l .before in
-    let s = i .before .loop .inv in
-    let p = said _ _ _ _ (l .number-in .ensures) (d .delta .given .1) in
-    let q = said _ _ _ _ (l2 .number-in2 .ensures) (v .word .given .1) in
-    let n : i .before .loop .left ≡ suc (i .before .loop .left - 1) = omega (arith, i .loop-test .taken) in
-    row-past _ _ _ _ _ _ _ n _ p _ q (e .if1 .left) (c .if2 .taken) ∙ sym (s .0)
+    row-past _ _ _ _ _ _ _ (some-left e) _ (delta-read e) _ (word-read e) (e .if1 .left) (c .if2 .taken) ∙ sym (begun e .before .loop .inv .0)
 
 matched-in-requires : tie.Need-matched-in-requires Inv-loop μ-loop
 matched-in-requires c κs =
     let e = c .before .before in
-    let v = e .before .before in
-    let l2 = v .before .before in
-    let d = l2 .before .before in
-    let l = d .before .before in
-    let i = l .before in
-    let s = i .before .loop .inv in
-    let p = said _ _ _ _ (l .number-in .ensures) (d .delta .given .1) in
-    let q = said _ _ _ _ (l2 .number-in2 .ensures) (v .word .given .1) in
-    let r = i .before .before .before .pre in
-    let word = small _ _ _ _ (sym q) in
-    (omega (arith, s .2, small _ _ _ _ (sym p) .next, word .next), r .1, word .value)
+    let after = small _ _ _ _ (sym (word-read e)) in
+    (omega (arith, begun e .before .loop .inv .2, small _ _ _ _ (sym (delta-read e)) .next, after .next), start e .pre .1, after .value)
 
 returns-5 : tie.Need-returns-5 Inv-loop μ-loop
 returns-5 c x =
     let e = c .before .before .before in
-    let v = e .before .before in
-    let l2 = v .before .before in
-    let d = l2 .before .before in
-    let l = d .before .before in
-    let i = l .before in
-    let s = i .before .loop .inv in
-    let p = said _ _ _ _ (l .number-in .ensures) (d .delta .given .1) in
-    let q = said _ _ _ _ (l2 .number-in2 .ensures) (v .word .given .1) in
-    let n : i .before .loop .left ≡ suc (i .before .loop .left - 1) = omega (arith, i .loop-test .taken) in
-    row-here _ _ _ _ _ _ _ n _ p _ q (e .if1 .left) (c .before .before .if2 .left) (c .before .if3 .taken) _ (c .matched-in .ensures x) ∙ sym (s .0)
+    row-here _ _ _ _ _ _ _ (some-left e) _ (delta-read e) _ (word-read e) (e .if1 .left) (c .before .before .if2 .left) (c .before .if3 .taken) _ (c .matched-in .ensures x)
+    ∙ sym (begun e .before .loop .inv .0)
 
 loop-less : tie.Need-loop-less Inv-loop μ-loop
-loop-less c =
-    let i = c .before .before .before .before .before .before .before .before .before .before .before in
-    omega (arith, i .loop-test .taken)
+loop-less c = omega (arith, begun (c .before .before) .loop-test .taken)
 
 loop-again : tie.Need-loop-again Inv-loop μ-loop
 loop-again c =
     let e = c .before .before in
-    let v = e .before .before in
-    let l2 = v .before .before in
-    let d = l2 .before .before in
-    let l = d .before .before in
-    let i = l .before in
-    let s = i .before .loop .inv in
-    let p = said _ _ _ _ (l .number-in .ensures) (d .delta .given .1) in
-    let q = said _ _ _ _ (l2 .number-in2 .ensures) (v .word .given .1) in
-    let n : i .before .loop .left ≡ suc (i .before .loop .left - 1) = omega (arith, i .loop-test .taken) in (
-      s .0 ∙ sym (row-on _ _ _ _ _ _ _ n _ p _ q (e .if1 .left) (c .before .if2 .left) (c .if3 .left)),
+    let s = begun e .before .loop .inv in (
+      s .0 ∙ sym (row-on _ _ _ _ _ _ _ (some-left e) _ (delta-read e) _ (word-read e) (e .if1 .left) (c .before .if2 .left) (c .if3 .left)),
       c .before .if2 .left,
-      omega (arith, s .2, small _ _ _ _ (sym p) .next, small _ _ _ _ (sym q) .next),
+      omega (arith, s .2, small _ _ _ _ (sym (delta-read e)) .next, small _ _ _ _ (sym (word-read e)) .next),
     )
 
 returns-6 : tie.Need-returns-6 Inv-loop μ-loop

@@ -1,16 +1,10 @@
--- `rows::handler::u32_in` meets its contract. Assumes nothing.
-use mathlib.Core.Path.{_∙_, ap}
-use Prim.Native.Nat.{_-_}
+-- `rows::handler::u32_at` meets its contract. Assumes nothing.
 use native.Mathlib.Omega.{arith}
-use Rattle.failure.specs.Outcome.{Answer}
 use denote.Ref.{now}
-use Rattle.rows.proofs.Held.{four, load-in}
+use Rattle.rows.proofs.Held.{four}
 use borrow.Author.Needs.{needs}
-use Rattle.rows.proofs.handler.u32_in.Statement.{statement}
-use Rattle.rows.proofs.handler.u32_in.Tie as tie
-
-sub-k : tie.Need-sub-k
-sub-k c = search needs
+use Rattle.rows.proofs.handler.u32_at.Statement.{statement}
+use Rattle.rows.proofs.handler.u32_at.Tie as tie
 
 shared-slice-read-wide : tie.Need-shared-slice-read-wide
 shared-slice-read-wide c = search needs
@@ -66,15 +60,12 @@ add-result-3 c = search needs
 returns : tie.Need-returns
 returns c =
     let x = c .before .before .before .before .before .before .before .before .before .args in
-    let b = now (x .section) in
-    let k = x .a - x .base in
-    (ap Answer (omega (arith, four b k (omega arith))) ∙ load-in b (x .base) (x .a) (omega arith) (omega arith), omega arith)
+    (omega (arith, four (now (x .section)) (x .k) (omega arith)), omega arith)
 
-pub u32-in-spec : {M : Type 1} → statement M
-u32-in-spec =
+pub u32-at-spec : {M : Type 1} → statement M
+u32-at-spec =
     tie.close
     (tie.spec
-    sub-k
     shared-slice-read-wide
     wide-requires
     add-wide

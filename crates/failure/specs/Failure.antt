@@ -1,6 +1,6 @@
 -- The numbers with which a call is turned back, and who causes each (document 01, "Turned back, by who causes it").
 -- The names are ps-unwind's; it has none for 27, 28 and 29.
-use mathlib.Core.Bool.{Bool, true, false, _||_}
+use mathlib.Core.Bool.{Bool, false, _||_}
 use mathlib.Core.List.{List, [], _∷_}
 use Prim.Native.Nat.{ℕ}
 use lib.Dec.{eqb}

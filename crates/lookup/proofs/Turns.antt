@@ -12,7 +12,7 @@ use Rattle.lookup.specs.Header.{chunkAt, headAt}
 use Rattle.lookup.specs.Record.{recordIn}
 use Rattle.lookup.specs.Steps.{placed}
 use Rattle.lookup.specs.Tables.{chunksFor, chunksFrom, chunks}
-use Rattle.lookup.specs.Lookup.{Found, searchIn, answerOr, find, lookup}
+use Rattle.lookup.specs.Lookup.{searchIn, answerOr, find, lookup}
 use Rattle.lookup.specs.declared.Chunk.{Chunk}
 use Rattle.lookup.specs.declared.Record.{Record}
 use Rattle.lookup.specs.declared.Head.the-variants as head

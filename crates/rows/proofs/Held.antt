@@ -14,7 +14,7 @@ use borrow.Author.Tests.{ltb-true, ltb-false, leb-true}
 use Rattle.failure.specs.Choice.{if_then_else_}
 use Rattle.failure.specs.Outcome.{Outcome, Answer}
 use Rattle.mem.specs.Memory.{Memory}
-use Rattle.mem.specs.Place.{holds, bytesAt}
+use Rattle.mem.specs.Place.{bytesAt}
 use Rattle.mem.specs.Word.{littleEndian, load}
 use Rattle.mem.specs.Wrapping.{sum}
 use Rattle.mem.proofs.Place.{holds-when}

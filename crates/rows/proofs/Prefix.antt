@@ -1,19 +1,18 @@
 -- Wherever `handler2` is not refused it answers the row of the offset among the table's readable rows, and none exactly where
 -- they have none. Assumes nothing.
-use mathlib.Core.Path.{_≡_, refl, sym, _∙_, ap}
+use mathlib.Core.Path.{_≡_, refl, sym, _∙_}
 use mathlib.Core.Bool.{Bool, true, false}
-use mathlib.Core.List.{List, _∷_}
-use Prim.Native.Nat.{ℕ, zero, suc, _+_, _/_, _%_, _≤_, _<_}
+use mathlib.Core.List.{_∷_}
+use Prim.Native.Nat.{ℕ, zero, suc, _+_, _/_, _%_, _<_}
 use native.Mathlib.Omega.{arith}
 use lib.Dec.{eqb, ltb}
-use borrow.Author.Tests.{eq-eqb, ne-eqb, eqb-true, eqb-false, ltb-true, ltb-false}
-use Rattle.failure.specs.Choice.{if_then_else_}
+use borrow.Author.Tests.{ne-eqb, ltb-true}
 use Rattle.failure.specs.Outcome.{Outcome, Refused, Answer, _>>=_}
 use Rattle.failure.specs.Failure.{BadEkoRecord, EkoAmbiguousCallSite}
 use Rattle.mem.specs.Memory.{Memory}
 use Rattle.leb.specs.Reader.{Read}
 use Rattle.rows.specs.Row.{Found, None, Pad, valid, checked}
-use Rattle.rows.specs.Handler.{Entry, row}
+use Rattle.rows.specs.Handler.{row}
 use Rattle.rows.specs.Handler2.{uleb, nextDelta, matched, decide, rowsFrom, handler2}
 use Rattle.rows.specs.Prefix.{readable, prefix, rowsOf, rowAt}
 

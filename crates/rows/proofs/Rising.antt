@@ -6,13 +6,13 @@ use mathlib.Core.Logic.{⊎-elim}
 use Prim.Native.Nat.{ℕ, zero, suc, _+_, _-_, _/_, _≤_, _<_}
 use native.Mathlib.Nat.{lt-trans}
 use native.Mathlib.Omega.{arith}
-use lib.Dec.{eqb, ltb, leb}
+use lib.Dec.{eqb, ltb}
 use borrow.Author.Tests.{eq-eqb, ne-eqb, lt-ltb, le-ltb, le-leb, lt-leb, eqb-true, eqb-false, ltb-true, ltb-false}
-use Rattle.failure.specs.Outcome.{Outcome, Refused, Answer, _>>=_}
+use Rattle.failure.specs.Outcome.{Answer, _>>=_}
 use Rattle.mem.specs.Memory.{Memory}
 use Rattle.mem.specs.Word.{load}
 use Rattle.mem.proofs.Tests.{lt-or-le}
-use Rattle.rows.specs.Row.{Found, None, checked}
+use Rattle.rows.specs.Row.{None, checked}
 use Rattle.rows.specs.Handler.{Entry, entryAt, leftBreaks, rightBreaks, judged, halve, handler}
 use Rattle.rows.proofs.Entries.{left-none, left-seen, right-none, right-seen, judged-whole}
 

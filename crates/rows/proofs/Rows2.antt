@@ -1,13 +1,11 @@
 -- Laws of version 2 rows: what each number and test comes to. Assumes nothing.
-use mathlib.Core.Path.{_≡_, refl, sym, _∙_, ap}
-use mathlib.Core.Bool.{Bool, true, false}
+use mathlib.Core.Path.{_≡_, sym}
 use Prim.Native.Nat.{ℕ, suc, _+_, _/_, _%_}
-use lib.Dec.{eqb}
 use borrow.Author.Tests.{eq-eqb, ne-eqb}
 use Rattle.failure.specs.Outcome.{Outcome, Refused, Answer, _>>=_}
 use Rattle.failure.specs.Failure.{EkoAmbiguousCallSite}
 use Rattle.mem.specs.Memory.{Memory}
-use Rattle.leb.specs.Reader.{Read, ulebAt, numbered}
+use Rattle.leb.specs.Reader.{Read}
 use Rattle.rows.specs.Row.{Found, checked}
 use Rattle.rows.specs.Handler2.{uleb, nextDelta, matched, decide, rowsFrom, handler2}
 

@@ -1,24 +1,22 @@
 -- A row table that lies in the section has the same rows whatever else is lent. Assumes nothing.
-use mathlib.Core.Path.{_≡_, refl, sym, _∙_, ap}
+use mathlib.Core.Path.{_≡_, refl, ap}
 use mathlib.Core.Bool.{Bool, true, false}
-use mathlib.Core.List.{List, _∷_}
+use mathlib.Core.List.{_∷_}
 use Prim.Native.Nat.{ℕ, zero, suc, _+_, _-_, _*_, _/_, _^_, _≤_, _<_}
 use native.Mathlib.Nat.{mod-eq-of-lt}
 use native.Mathlib.Omega.{arith}
 use lib.Dec.{leb, ltb, eqb}
-use borrow.Author.Tests.{leb-false, ltb-true, eqb-false}
+use borrow.Author.Tests.{leb-false, ltb-true}
 use Rattle.failure.specs.Choice.{if_then_else_}
 use Rattle.failure.specs.Outcome.{Outcome, Refused, Answer, _>>=_}
-use Rattle.failure.specs.Failure.{EkoAmbiguousCallSite}
 use Rattle.mem.specs.Memory.{Region, Memory, size}
-use Rattle.mem.specs.Place.{holds, bytesAt}
+use Rattle.mem.specs.Place.{bytesAt}
 use Rattle.mem.specs.Word.{load}
 use Rattle.mem.specs.Wrapping.{sum}
 use Rattle.mem.proofs.Place.{holds-when}
-use Rattle.leb.specs.Reader.{Read, ulebAt, numbered}
+use Rattle.leb.specs.Reader.{Read, numbered}
 use Rattle.leb.proofs.Numbers.{small}
 use Rattle.leb.proofs.Section.{uleb-same}
-use Rattle.rows.specs.Row.{Found, None, checked}
 use Rattle.rows.specs.Handler.{Entry, entryAt, leftBreaks, rightBreaks, judged, halve, handler}
 use Rattle.rows.specs.Handler2.{uleb, nextDelta, matched, decide, rowsFrom, handler2}
 

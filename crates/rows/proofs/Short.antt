@@ -3,12 +3,11 @@ use mathlib.Core.Path.{_≡_, refl, sym, _∙_, ap, subst}
 use mathlib.Core.List.{List}
 use Prim.Native.Nat.{ℕ, suc, _+_, _-_, _*_, _/_, _%_, _^_, _≤_, _<_}
 use native.Mathlib.Omega.{arith}
-use lib.Dec.{ltb, eqb}
 use lib.ListN.{length, getD}
 use borrow.Author.Tests.{lt-ltb, le-ltb, eq-eqb, ne-eqb}
 use Rattle.failure.specs.Outcome.{Outcome, Answer}
 use Rattle.mem.specs.Memory.{Memory}
-use Rattle.mem.specs.Place.{holds, bytesAt}
+use Rattle.mem.specs.Place.{bytesAt}
 use Rattle.mem.specs.Word.{load}
 use Rattle.mem.proofs.Place.{holds-when}
 use Rattle.leb.specs.Reader.{byteAt, ulebAt, Read}

@@ -1,5 +1,5 @@
 -- Version 1 tables: u32 count, then rows of 12 bytes (return offset, pad, action), found by halving.
-use mathlib.Core.Bool.{Bool, true, false}
+use mathlib.Core.Bool.{Bool, false}
 use Prim.Native.Nat.{ℕ, zero, suc, _+_, _-_, _*_, _/_}
 use lib.Dec.{leb, ltb, eqb}
 use Rattle.failure.specs.Choice.{if_then_else_}

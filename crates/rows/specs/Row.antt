@@ -1,5 +1,5 @@
 -- A row: what is to be done when an exception leaves the call with this return offset.
-use mathlib.Core.Bool.{Bool, true, false, not}
+use mathlib.Core.Bool.{Bool, false, not}
 use Prim.Native.Nat.{ℕ}
 use lib.Dec.{eqb}
 use Rattle.failure.specs.Choice.{if_then_else_}

@@ -5,7 +5,6 @@ use denote.Ref.{now}
 use Rattle.lookup.specs.Steps.{Inside, Stands, halved}
 use Rattle.lookup.specs.declared.Chunk.{Chunk}
 use Rattle.lookup.proofs.Halving.{same-chunk}
-use borrow.Author.Needs.{needs}
 use Rattle.lookup.proofs.halve_by.Statement.{statement}
 use Rattle.lookup.proofs.halve_by.Tie as tie
 

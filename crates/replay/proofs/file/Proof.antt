@@ -1,7 +1,5 @@
 -- `replay::file` is safe and ends. Assumes nothing.
-use mathlib.Core.Path.{_≡_}
 use Prim.Native.Nat.{_-_}
-use lib.ListN.{length}
 use borrow.Author.Needs.{needs}
 use Rattle.replay.proofs.file.Statement.{statement}
 use Rattle.replay.proofs.file.Tie as tie

@@ -1,7 +1,5 @@
 -- `replay::same_file` is safe and ends. Assumes nothing.
-use mathlib.Core.Path.{_≡_}
 use Prim.Native.Nat.{_-_}
-use lib.ListN.{length}
 use borrow.Author.Needs.{needs}
 use Rattle.replay.proofs.same_file.Statement.{statement}
 use Rattle.replay.proofs.same_file.Tie as tie

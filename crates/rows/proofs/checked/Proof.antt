@@ -1,5 +1,5 @@
 -- `rows::checked` meets its contract. Assumes nothing.
-use mathlib.Core.Path.{refl, sym, _∙_, ap}
+use mathlib.Core.Path.{sym, _∙_}
 use Rattle.rows.specs.Row.{checked}
 use borrow.Author.Needs.{needs}
 use Rattle.rows.proofs.checked.Statement.{statement}

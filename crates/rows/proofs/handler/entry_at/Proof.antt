@@ -1,5 +1,5 @@
 -- `rows::handler::entry_at` meets its contract. Assumes nothing.
-use mathlib.Core.Path.{refl, sym, _∙_, ap}
+use mathlib.Core.Path.{sym, _∙_, ap}
 use Rattle.mem.specs.Word.{loaded}
 use Rattle.rows.proofs.Entries.{entry-first, entry-second, entry-third, entry-whole}
 use borrow.Author.Needs.{needs}

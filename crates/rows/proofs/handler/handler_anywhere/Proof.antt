@@ -1,5 +1,5 @@
 -- `rows::handler::handler_anywhere` meets its contract. Each turn halves the rows that are left. Assumes nothing.
-use mathlib.Core.Path.{refl, sym, _∙_, ap}
+use mathlib.Core.Path.{sym, _∙_, ap}
 use Rattle.mem.specs.Word.{loaded}
 use Prim.Native.Nat.{_-_, _^_, _<_}
 use native.Mathlib.Omega.{arith}

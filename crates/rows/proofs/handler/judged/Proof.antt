@@ -1,5 +1,5 @@
 -- `rows::handler::judged` meets its contract. Assumes nothing.
-use mathlib.Core.Path.{refl, sym, _∙_, ap}
+use mathlib.Core.Path.{sym, _∙_, ap}
 use Rattle.rows.specs.Answers.{breaks}
 use Rattle.rows.specs.Handler.{row}
 use Rattle.rows.proofs.Entries.{judged-left-refused, judged-left, judged-right-refused, judged-right, judged-whole}

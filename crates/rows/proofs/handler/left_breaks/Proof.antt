@@ -1,5 +1,5 @@
 -- `rows::handler::left_breaks` meets its contract. Assumes nothing.
-use mathlib.Core.Path.{refl, sym, _∙_, ap}
+use mathlib.Core.Path.{sym, _∙_, ap}
 use borrow.Author.Tests.{le-leb, lt-leb}
 use Rattle.failure.specs.Outcome.{Answer}
 use Rattle.rows.specs.Answers.{entry}

@@ -1,5 +1,4 @@
 -- `rows::handler::right_breaks_in` meets its contract. Assumes nothing.
-use native.Mathlib.Omega.{arith}
 use Rattle.rows.proofs.Held.{right-none-in, right-in, right-there}
 use borrow.Author.Needs.{needs}
 use Rattle.rows.proofs.handler.right_breaks_in.Statement.{statement}

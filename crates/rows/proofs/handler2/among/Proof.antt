@@ -1,7 +1,7 @@
 -- `rows::handler2::among` meets its contract. Each turn passes a row. Assumes nothing.
 use mathlib.Core.Path.{refl, sym, _∙_, ap}
 use mathlib.Core.Path.{subst, _≡_}
-use Prim.Native.Nat.{ℕ, suc, _-_, _^_, _≤_, _<_}
+use Prim.Native.Nat.{ℕ, suc, _-_, _≤_}
 use native.Mathlib.Omega.{arith}
 use Rattle.mem.specs.Memory.{lent}
 use Rattle.rows.specs.Answers.{after, Within}

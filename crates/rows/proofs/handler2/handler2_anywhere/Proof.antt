@@ -1,5 +1,5 @@
 -- `rows::handler2::handler2_anywhere` meets its contract. Assumes nothing.
-use mathlib.Core.Path.{refl, sym, _∙_, ap}
+use mathlib.Core.Path.{sym, _∙_, ap}
 use Rattle.leb.specs.Reader.{told}
 use Rattle.rows.proofs.Rows2.{rows-refused, rows-read}
 use borrow.Author.Needs.{needs}

@@ -1,5 +1,5 @@
 -- `rows::handler2::matched` meets its contract. Assumes nothing.
-use mathlib.Core.Path.{refl, sym, _∙_, ap}
+use mathlib.Core.Path.{sym, _∙_, ap}
 use Rattle.leb.specs.Reader.{told}
 use Rattle.rows.proofs.Rows2.{matched-last, matched-refused, matched-ambiguous, matched-whole}
 use borrow.Author.Needs.{needs}

@@ -1,7 +1,6 @@
 -- `rows::handler2::next_row` meets its contract. Assumes nothing.
-use mathlib.Core.Path.{refl, sym, _∙_, ap}
-use native.Mathlib.Omega.{arith}
-use Rattle.leb.specs.Reader.{Read, told}
+use mathlib.Core.Path.{sym, _∙_, ap}
+use Rattle.leb.specs.Reader.{told}
 use Rattle.leb.proofs.Numbers.{small}
 use Rattle.rows.proofs.Rows2.{row-first, row-second, row-whole}
 use borrow.Author.Needs.{needs}

@@ -1,5 +1,5 @@
 -- `rows::handler2::number` meets its contract. Assumes nothing.
-use mathlib.Core.Path.{refl, sym, _∙_, ap}
+use mathlib.Core.Path.{_∙_, ap}
 use Rattle.leb.specs.Reader.{numbered}
 use borrow.Author.Needs.{needs}
 use Rattle.rows.proofs.handler2.number.Statement.{statement}

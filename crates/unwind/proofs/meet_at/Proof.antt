@@ -1,23 +1,26 @@
 -- `unwind::meet_at` meets its contract. Assumes nothing.
-use mathlib.Core.Path.{sym, _∙_, ap}
+use mathlib.Core.Path.{_∙_, ap}
 use Prim.Native.Nat.{ℕ}
-use borrow.Author.Tests.{not-true}
+use borrow.Author.Tests.{not-true, not-false}
 use Rattle.model.specs.FrameStep.{lookedUp}
 use Rattle.unwind.proofs.Walks.{record-bounds}
-use Rattle.unwind.proofs.Meeting.{passed-told, meets-refused, meets-row}
+use Rattle.unwind.proofs.Meeting.{passed-told, meets-refused, meets-unasked, meets-row, asked-rows, seen-asked}
 use borrow.Author.Needs.{needs}
 use Rattle.unwind.proofs.meet_at.Statement.{statement}
 use Rattle.unwind.proofs.meet_at.Tie as tie
 
-rowless-requires : tie.Need-rowless-requires
-rowless-requires c κs = search needs
+asked-requires : tie.Need-asked-requires
+asked-requires c κs = search needs
 
 meet-through-requires : tie.Need-meet-through-requires
 meet-through-requires c κs =
-    (c .before .before .before .before .before .before .before .pre .0, c .before .before .before .before .before .before .before .pre .1, sym (c .before .before .rowless .ensures) ∙ not-true _ (c .before .if2 .taken), c .before .before .before .if1 .taken)
+    let x = c .before .before .before .before .before .before .before .args in
+    (c .before .before .before .before .before .before .before .pre .0, c .before .before .before .before .before .before .before .pre .1, asked-rows (x .rows) (x .interrupted) (x .«record») (x .pc) _ (c .before .before .asked .ensures) (c .before .if2 .taken) .1, c .before .before .before .if1 .taken)
 
 returns : tie.Need-returns
-returns c = search needs
+returns c =
+    let x = c .before .before .before .before .before .before .before .before .args in
+    seen-asked _ _ _ _ (asked-rows (x .rows) (x .interrupted) (x .«record») (x .pc) _ (c .before .before .before .asked .ensures) (c .before .before .if2 .taken) .0) _ (c .meet-through .ensures)
 
 looked-up-requires : tie.Need-looked-up-requires
 looked-up-requires c κs =
@@ -30,6 +33,11 @@ past-requires c κs =
 enum-told : tie.Need-enum-told
 enum-told c = search needs
 
+returns-2 : tie.Need-returns-2
+returns-2 c =
+    meets-unasked _ _ _ _ _ (c .before .before .before .before .before .before .before .before .before .before .pre .0) (c .before .before .before .before .before .before .before .before .before .before .pre .1) _ (not-true _ (c .if3 .taken)) _
+    (passed-told _ _ _ _ _ _ (c .before .before .before .past .ensures) (c .before .enum-told .given .1))
+
 row-of-requires : tie.Need-row-of-requires
 row-of-requires c κs = search needs
 
@@ -39,28 +47,29 @@ met-row-requires c κs = search needs
 enum-known-n : tie.Need-enum-known-n
 enum-known-n c = search needs
 
-returns-2 : tie.Need-returns-2
-returns-2 c =
-    meets-row _ _ _ _ _ (c .before .before .before .before .before .before .before .before .before .before .before .pre .0) (c .before .before .before .before .before .before .before .before .before .before .before .pre .1) _
-    (passed-told _ _ _ _ _ _ (c .before .before .before .before .past .ensures) (c .before .before .enum-told .given .1)) (c .before .row-of .result) (c .before .row-of .ensures) _ (c .met-row .ensures)
-
 returns-3 : tie.Need-returns-3
 returns-3 c =
-    meets-refused _ _ _ _ _ (c .before .before .before .before .before .before .before .before .before .before .pre .0) (c .before .before .before .before .before .before .before .before .before .before .pre .1) _
+    meets-row _ _ _ _ _ (c .before .before .before .before .before .before .before .before .before .before .before .before .pre .0) (c .before .before .before .before .before .before .before .before .before .before .before .before .pre .1) _ (not-false _ (c .before .before .if3 .left)) _
+    (passed-told _ _ _ _ _ _ (c .before .before .before .before .before .past .ensures) (c .before .before .before .enum-told .given .1)) (c .before .row-of .result) (c .before .row-of .ensures) _ (c .met-row .ensures)
+
+returns-4 : tie.Need-returns-4
+returns-4 c =
+    meets-refused _ _ _ _ _ (c .before .before .before .before .before .before .before .before .before .before .pre .0) (c .before .before .before .before .before .before .before .before .before .before .pre .1) _ _
     (passed-told _ _ _ _ _ _ (c .before .before .before .past .ensures) (c .before .n .given .1))
 
 pub meet-at-spec : {M : Type 1} → statement M
 meet-at-spec =
     tie.close
     (tie.spec
-    rowless-requires
+    asked-requires
     meet-through-requires
     returns
     looked-up-requires
     past-requires
     enum-told
+    returns-2
     row-of-requires
     met-row-requires
     enum-known-n
-    returns-2
-    returns-3)
+    returns-3
+    returns-4)

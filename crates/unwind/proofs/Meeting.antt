@@ -5,6 +5,7 @@ use mathlib.Core.List.{List}
 use mathlib.Core.Option.{Option, none, some}
 use Prim.Native.Nat.{ℕ, _-_, _^_, _<_}
 use native.Mathlib.Omega.{arith}
+use borrow.Author.Tests.{not-false}
 use Rattle.failure.specs.Outcome as Outcome
 use Rattle.failure.specs.Outcome.{Outcome, Answer, _>>=_}
 use Rattle.mem.specs.Memory.{Memory}
@@ -16,7 +17,7 @@ use Rattle.rows.specs.declared.Row.{Row}
 use Rattle.rows.specs.declared.Row.the-variants as row
 use Rattle.lookup.specs.declared.Record.{Record}
 use Rattle.personality.specs.Reason.{rowless, offsetIn, rowAfter, rowOf}
-use Rattle.personality.proofs.Reasons.{row-2, after-run, after-refused}
+use Rattle.personality.proofs.Reasons.{row-none, row-2, after-run, after-refused}
 use Rattle.state.specs.declared.State.{State}
 use Rattle.program.specs.Run.{Ran, run}
 use Rattle.program.specs.Answers.{ended, through}
@@ -65,11 +66,17 @@ module _ (arch : ℕ) (m : Memory) (f : Frame) (r : Record) (at : ℕ) (q : at �
   pub meets-refused : (rows : Bool) (n : ℕ) → past (numbers arch) m f r ≡ Outcome.Refused n → Outcome.Refused n ≡ seen rows arch m f
   meets-refused rows n p = by-past rows (Outcome.Refused n) p
 
-  -- past the frame, where no row is asked for
-  pub meets-unasked : (rows : Bool) → rows ≡ false → (file : List ℕ) →
+  -- past the frame, where no row is asked for or it has none
+  pub meets-unasked : (rows b : Bool) → b ≡ (rows && not (rowless (f .interrupted) r at)) → b ≡ false → (file : List ℕ) →
       past (numbers arch) m f r ≡ Answer (Walk.Past r (callerOf f file)) → meeting f file (met.Rowless r) ≡ seen rows arch m f
-  meets-unasked rows h file p =
-      by-past false (Answer (Walk.Past r (callerOf f file))) p ∙ ap (λ (b : Bool). seen b arch m f) (sym h)
+  meets-unasked rows b g h file p = go rows (sym g ∙ h) ∙ by-past rows (Answer (Walk.Past r (callerOf f file))) p
+    where
+      go : (s : Bool) → (s && not (rowless (f .interrupted) r at)) ≡ false →
+          Answer (Rowless r (callerOf f file)) ≡ seenAt s arch m f (Walk.Past r (callerOf f file))
+      go true e =
+          ap (λ (o : Outcome Found). o >>= λ z. Answer (seenAs r (callerOf f file) z))
+          (row-none (numbers arch) m (f .interrupted) r at (not-false _ e) ∙ ap (λ (k : ℕ). rowOf (numbers arch) m (f .interrupted) r k) q)
+      go false e = refl
 
   -- past the frame, by its row
   pub meets-row : (rows : Bool) → rows ≡ true → (file : List ℕ) → past (numbers arch) m f r ≡ Answer (Walk.Past r (callerOf f file)) →
@@ -139,6 +146,10 @@ asked-rows rows interrupted r at b e p = go rows (rowless interrupted r at) (sym
     go true true e = let z : _≡_ {A = ℕ} 0 1 = cc in absurd (omega arith)
     go true false e = (refl, refl)
     go false t e = let z : _≡_ {A = ℕ} 0 1 = cc in absurd (omega arith)
+
+-- so that its version is not 2, where those of version 2 have gone another way
+pub not-both : (b : Bool) → b ≡ true → b ≡ false → ⊥
+not-both b e f = let z : _≡_ {A = ℕ} 0 1 = cc in absurd (omega arith)
 
 pub seen-asked : (rows : Bool) (arch : ℕ) (m : Memory) (f : Frame) → rows ≡ true → (o : Outcome Seen) → o ≡ seen true arch m f →
     o ≡ seen rows arch m f

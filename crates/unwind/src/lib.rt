@@ -49,13 +49,13 @@ use lookup::lookup_part;
 use mem::opening;
 use mem::wrapping;
 use model::Unwinding;
-use personality::row_of;
 use personality::rowless;
 use program::run_program;
 use program::run_through;
 use rows::ACTION_CATCH;
 use rows::ACTION_CLEANUP;
 use rows::Row;
+use rows::handler::handler_at;
 use rows::handler2::handler2_at;
 use state::State;
 
@@ -564,8 +564,9 @@ fn meet_at<'a>(
         (frameWith number interrupted (now (file .entry)))
         ⌝ }
 {
+    let row_asked = asked(rows, interrupted, record, pc);
     if record.version == VERSION2 {
-        if asked(rows, interrupted, record, pc) {
+        if row_asked {
             return meet_through(
                 section,
                 section_base,
@@ -594,18 +595,16 @@ fn meet_at<'a>(
         file,
     ) {
         Status::Done => {
-            if !rows {
+            if !row_asked {
                 return Met::Rowless(record);
             }
-            let row = row_of(
+            let row = handler_at(
                 section,
                 section_base,
                 stack,
                 stack_base,
-                arch,
-                interrupted,
-                record,
-                pc,
+                record.handlers,
+                (pc - record.start) % 0x1_0000_0000,
             );
             met_row(record, row)
         }

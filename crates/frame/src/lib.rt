@@ -1082,6 +1082,63 @@ fn step_plain<'a>(
     }
 }
 
+// Past the tests: the caller's registers in place.
+fn step_at<'a>(
+    section: &'a [u8],
+    section_base: usize,
+    stack: &'a [u8],
+    stack_base: usize,
+    arch: u8,
+    cfa: usize,
+    frame: u32,
+    n: usize,
+    file: &mut [usize; COLUMNS],
+) -> Status
+    requires { ⌜ Saves (Arch.numbers arch) frame n ⌝ }
+    ensures { λ r. ⌜
+        InPlace (now (file .entry))
+        (Step.stepAt (Arch.numbers arch)
+        (lent (now (section .entry)) «section_base» (now (stack .entry)) «stack_base» .regions)
+        frame cfa (now (file .entry)))
+        r (now (file .exit))
+        ⌝ }
+{
+    if !is_near(
+        section,
+        section_base,
+        stack,
+        stack_base,
+        arch,
+        cfa,
+        frame,
+        n,
+    ) {
+        return step_plain(
+            section,
+            section_base,
+            stack,
+            stack_base,
+            arch,
+            cfa,
+            frame,
+            n,
+            file,
+        );
+    }
+    step_near(
+        section,
+        section_base,
+        stack,
+        stack_base,
+        arch,
+        cfa,
+        frame,
+        n,
+        file,
+    );
+    Status::Done
+}
+
 // The caller's registers from a version 1 frame word, in place, for any architecture number; a refusal leaves the file as it
 // was. First means interrupted.
 pub fn step_into<'a>(
@@ -1107,29 +1164,7 @@ pub fn step_into<'a>(
     match frame_cfa(arch, frame, first, file[s], file[f]) {
         Value::Is(cfa) => {
             let n = named_count(frame);
-            if !is_near(
-                section,
-                section_base,
-                stack,
-                stack_base,
-                arch,
-                cfa,
-                frame,
-                n,
-            ) {
-                return step_plain(
-                    section,
-                    section_base,
-                    stack,
-                    stack_base,
-                    arch,
-                    cfa,
-                    frame,
-                    n,
-                    file,
-                );
-            }
-            step_near(
+            step_at(
                 section,
                 section_base,
                 stack,
@@ -1139,8 +1174,7 @@ pub fn step_into<'a>(
                 frame,
                 n,
                 file,
-            );
-            Status::Done
+            )
         }
         Value::Refused(n) => Status::Refused(n),
     }

@@ -1,5 +1,4 @@
 -- The laws that callers cite, each file named after the definition that it is about.
-pub mod Next
 pub mod Slot
 pub mod Pairs
 pub mod Turn

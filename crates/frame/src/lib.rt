@@ -766,7 +766,7 @@ fn fp_near<'a>(
     file[k] = slot_in(stack, cfa - stack_base, 2);
 }
 
-// The return address, from the stack or still in its register.
+// The return address, from its slot in the stack.
 fn address_near<'a>(
     section: &'a [u8],
     section_base: usize,
@@ -775,20 +775,18 @@ fn address_near<'a>(
     arch: u8,
     cfa: usize,
     frame: u32,
-    held: usize,
 ) -> usize
-    requires { ⌜ Near (now section) «section_base» (now stack) «stack_base» cfa 2 ⌝ }
+    requires { ⌜
+        Near (now section) «section_base» (now stack) «stack_base» cfa 2 × (Frame.raSlot (Arch.numbers arch) frame ≡ 0 → ⊥)
+        ⌝ }
     ensures { λ r. ⌜
-        ((file : List ℕ) → Outcome.Answer held ≡ File.get (Arch.numbers arch) file (Arch.numbers arch .ra) →
+        ((file : List ℕ) →
         Outcome.Answer r ≡
         Step.returnAddress (Arch.numbers arch)
         (lent (now (section .entry)) «section_base» (now (stack .entry)) «stack_base» .regions)
         cfa (Frame.raSlot (Arch.numbers arch) frame) file)
         ⌝ }
 {
-    if ra_slot(arch, frame) == 0 {
-        return held;
-    }
     slot_in(stack, cfa - stack_base, 1)
 }
 
@@ -799,6 +797,37 @@ fn set_return(arch: u8, cfa: usize, ra: usize, file: &mut [usize; COLUMNS])
     let k = ra_column(arch);
     file[k] = ra;
     return_to(arch, cfa, ra, file);
+}
+
+// The frame has its return address in a slot, and no slot of it can be refused.
+fn is_near<'a>(
+    section: &'a [u8],
+    section_base: usize,
+    stack: &'a [u8],
+    stack_base: usize,
+    arch: u8,
+    cfa: usize,
+    frame: u32,
+    n: usize,
+) -> bool
+    requires { ⌜ n ≤ 18 ⌝ }
+    ensures { λ r. ⌜
+        (r ≡ true →
+        Near (now (section .entry)) «section_base» (now (stack .entry)) «stack_base» cfa (deepest frame n)
+        × (Frame.raSlot (Arch.numbers arch) frame ≡ 0 → ⊥))
+        ⌝ }
+{
+    if ra_slot(arch, frame) == 0 {
+        return false;
+    }
+    near(
+        section,
+        section_base,
+        stack,
+        stack_base,
+        cfa,
+        deepest(frame, n),
+    )
 }
 
 // Past the tests, where no slot can be refused: the caller's registers in place.
@@ -814,7 +843,8 @@ fn step_near<'a>(
     file: &mut [usize; COLUMNS],
 )
     requires { ⌜
-        Near (now section) «section_base» (now stack) «stack_base» cfa (deepest frame n) × Saves (Arch.numbers arch) frame n
+        Near (now section) «section_base» (now stack) «stack_base» cfa (deepest frame n) × Saves (Arch.numbers arch) frame n ×
+        (Frame.raSlot (Arch.numbers arch) frame ≡ 0 → ⊥)
         ⌝ }
     ensures { λ _. ⌜
         Step.stepAt (Arch.numbers arch)
@@ -823,17 +853,7 @@ fn step_near<'a>(
         ≡ Outcome.Answer (now (file .exit))
         ⌝ }
 {
-    let k = ra_column(arch);
-    let ra = address_near(
-        section,
-        section_base,
-        stack,
-        stack_base,
-        arch,
-        cfa,
-        frame,
-        file[k],
-    );
+    let ra = address_near(section, section_base, stack, stack_base, arch, cfa, frame);
     restore_near(
         section,
         section_base,
@@ -1062,6 +1082,63 @@ fn step_plain<'a>(
     }
 }
 
+// Past the tests: the caller's registers in place.
+fn step_at<'a>(
+    section: &'a [u8],
+    section_base: usize,
+    stack: &'a [u8],
+    stack_base: usize,
+    arch: u8,
+    cfa: usize,
+    frame: u32,
+    n: usize,
+    file: &mut [usize; COLUMNS],
+) -> Status
+    requires { ⌜ Saves (Arch.numbers arch) frame n ⌝ }
+    ensures { λ r. ⌜
+        InPlace (now (file .entry))
+        (Step.stepAt (Arch.numbers arch)
+        (lent (now (section .entry)) «section_base» (now (stack .entry)) «stack_base» .regions)
+        frame cfa (now (file .entry)))
+        r (now (file .exit))
+        ⌝ }
+{
+    if !is_near(
+        section,
+        section_base,
+        stack,
+        stack_base,
+        arch,
+        cfa,
+        frame,
+        n,
+    ) {
+        return step_plain(
+            section,
+            section_base,
+            stack,
+            stack_base,
+            arch,
+            cfa,
+            frame,
+            n,
+            file,
+        );
+    }
+    step_near(
+        section,
+        section_base,
+        stack,
+        stack_base,
+        arch,
+        cfa,
+        frame,
+        n,
+        file,
+    );
+    Status::Done
+}
+
 // The caller's registers from a version 1 frame word, in place, for any architecture number; a refusal leaves the file as it
 // was. First means interrupted.
 pub fn step_into<'a>(
@@ -1087,21 +1164,7 @@ pub fn step_into<'a>(
     match frame_cfa(arch, frame, first, file[s], file[f]) {
         Value::Is(cfa) => {
             let n = named_count(frame);
-            let depth = deepest(frame, n);
-            if !near(section, section_base, stack, stack_base, cfa, depth) {
-                return step_plain(
-                    section,
-                    section_base,
-                    stack,
-                    stack_base,
-                    arch,
-                    cfa,
-                    frame,
-                    n,
-                    file,
-                );
-            }
-            step_near(
+            step_at(
                 section,
                 section_base,
                 stack,
@@ -1111,8 +1174,7 @@ pub fn step_into<'a>(
                 frame,
                 n,
                 file,
-            );
-            Status::Done
+            )
         }
         Value::Refused(n) => Status::Refused(n),
     }

@@ -11,32 +11,20 @@ use Rattle.mem.specs.Memory.{Memory, Lent}
 use Rattle.mem.specs.Opening.{opens}
 use Rattle.arch.specs.Arch.{numbers, isKnown}
 use Rattle.arch.specs.File.{pc}
-use Rattle.arch.specs.declared.Status.{Status}
-use Rattle.lookup.specs.declared.Record.{Record}
-use Rattle.model.specs.FrameStep.{Frame, Step, callerOf, past, frameStep}
-use Rattle.unwind.specs.Turns.{passed, located}
+use Rattle.model.specs.FrameStep.{Frame, Step, callerOf, frameStep}
+use Rattle.unwind.specs.Turns.{seen, meeting}
 use Rattle.unwind.specs.Batches.{Passed, End, Past, passedAs, given, givenAs, noFrames, Walking, More, Over, Broken, oneMore, walkPast, walkFrom, walking, walkedBy}
 use Rattle.unwind.specs.declared.Frames.{Frames}
 use Rattle.unwind.specs.declared.Given.{Given}
 use Rattle.unwind.specs.declared.Given.the-variants as code
-use Rattle.unwind.specs.declared.Located.{Located}
-use Rattle.unwind.specs.declared.Located.the-variants as place
-use Rattle.unwind.proofs.Walks.{pastRecord, recordIn}
-use Rattle.unwind.proofs.Meeting.{step-located, passed-told, step-below}
+use Rattle.unwind.specs.declared.Met.{Met}
+use Rattle.unwind.proofs.Meeting.{stepOf, step-met, step-below}
 
-module _ (arch : ℕ) (m : Memory) (f : Frame) (l v : Located) (e : located l ≡ recordIn arch m f) (p : l ≡ v) where
-  -- a frame of a walk, by the record that was located
-  pub given-located : ((located v >>= pastRecord (numbers arch) m f) >>= λ s. Answer (passedAs s)) ≡ given arch m f
-  unfolding given
-  given-located = ap (λ (o : Outcome Step). o >>= λ s. Answer (passedAs s)) (step-located arch m f l v e p)
-
--- and by the step past it
-pub given-past : (arch : ℕ) (m : Memory) (f : Frame) (l : Located) → located l ≡ recordIn arch m f → (r : Record) → l ≡ place.At r →
-    (s t : Status) (file : List ℕ) → passed f r s file ≡ past (numbers arch) m f r → s ≡ t →
-    (passed f r t file >>= λ x. Answer (passedAs x)) ≡ given arch m f
-given-past arch m f l e r p s t file q h =
-    ap (λ (o : Outcome Step). o >>= λ x. Answer (passedAs x)) (sym (passed-told f r (past (numbers arch) m f r) s t file q h))
-    ∙ given-located arch m f l (place.At r) e p
+-- a frame of a walk, by a frame that was met
+pub given-met : (arch : ℕ) (m : Memory) (f : Frame) (file : List ℕ) (w v : Met) → meeting f file w ≡ seen false arch m f → w ≡ v →
+    ((meeting f file v >>= λ x. Answer (stepOf x)) >>= λ s. Answer (passedAs s)) ≡ given arch m f
+unfolding given
+given-met arch m f file w v e p = ap (λ (o : Outcome Step). o >>= λ s. Answer (passedAs s)) (step-met arch m f file w v e p)
 
 -- frames that were given so far, as the loop holds them
 abbrev pub framesOf : ℕ → List ℕ → List ℕ → List ℕ → Frames

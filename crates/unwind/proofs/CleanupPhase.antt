@@ -89,7 +89,7 @@ module _ (arch : ℕ) (m : Memory) (exception : ℕ) (c : Choice) (f : Frame) wh
 
   abbrev bySeen : (Frame → Outcome Cleaned) → Seen → Outcome Cleaned
   bySeen rest End = Outcome.Refused 22
-  bySeen rest (Rowless next) = if below then rest next else Outcome.Refused 22
+  bySeen rest (Rowless r next) = if below then rest next else Outcome.Refused 22
   bySeen rest (WithRow next start pad action) =
       cleanOr (numbers arch) exception f next (cleanRow below same start pad action) (rest next)
 
@@ -111,7 +111,7 @@ module _ (arch : ℕ) (m : Memory) (exception : ℕ) (c : Choice) (f : Frame) wh
       go false p z q false v s w = rw (p, v)
 
   by-seen : (rest : Frame → Outcome Cleaned) (o : Outcome Step) →
-      (o >>= cleanAt arch m exception c f rest) ≡ ((o >>= seenAt arch m f) >>= bySeen rest)
+      (o >>= cleanAt arch m exception c f rest) ≡ ((o >>= seenAt true arch m f) >>= bySeen rest)
   by-seen rest (Outcome.Refused n) = refl
   by-seen rest (Answer Walk.End) = refl
   by-seen rest (Answer (Walk.Past r next)) = go (rowOf (numbers arch) m (f .interrupted) r (pc (f .file)))
@@ -124,7 +124,7 @@ module _ (arch : ℕ) (m : Memory) (exception : ℕ) (c : Choice) (f : Frame) wh
       go (Answer (Row.Pad pad action)) = by-row r next (rest next) pad action
 
   -- the same of a frame that was met
-  module _ (file : List ℕ) (w : Met) (e : meeting f file w ≡ seen arch m f) where
+  module _ (file : List ℕ) (w : Met) (e : meeting f file w ≡ seen true arch m f) where
     by-met : (rest : Frame → Outcome Cleaned) →
         (frameStep arch m f >>= cleanAt arch m exception c f rest)
         ≡ cleanOr (numbers arch) exception f (callerOf f file) (cleanMet below same w) (rest (callerOf f file))
@@ -141,7 +141,7 @@ module _ (arch : ℕ) (m : Memory) (exception : ℕ) (c : Choice) (f : Frame) wh
             (meeting f file w >>= bySeen rest)
             ≡ cleanOr (numbers arch) exception f (callerOf f file) (cleanMet below same w) (rest (callerOf f file))
         go met.End = refl
-        go met.Rowless = rowless below
+        go (met.Rowless r) = rowless below
         go (met.Row start pad action) = refl
         go (met.Refused n) = refl
 
@@ -167,19 +167,19 @@ module _ (arch : ℕ) (m : Memory) (u : Unwinding) where
   pub cleaning-begin : UnderWay arch m u (frameOf u)
   cleaning-begin = record { fuel = 1024; left = refl; enough = omega arith }
 
-  module _ (f : Frame) (file : List ℕ) (w : Met) (e : meeting f file w ≡ seen arch m f) (b s : Bool)
+  module _ (f : Frame) (file : List ℕ) (w : Met) (e : meeting f file w ≡ seen true arch m f) (b s : Bool)
       (p : b ≡ ltb (f .number) (u .«chosen_number»)) (k : ℕ) (i : k ≡ numbers arch .sp) (q : s ≡ eqb (getD (f .file) k 0) (u .«chosen_sp»))
       (t : Cleaning)
       (g : t ≡ cleanMet b s w) where
     -- a turn that goes on or lands has passed the frame
-    passed : (x : Met) → (x ≡ met.End → ⊥) → ((n : ℕ) → x ≡ met.Refused n → ⊥) → meeting f file x ≡ seen arch m f → f .number < 1024
+    passed : (x : Met) → (x ≡ met.End → ⊥) → ((n : ℕ) → x ≡ met.Refused n → ⊥) → meeting f file x ≡ seen true arch m f → f .number < 1024
     passed met.End i j k = absurd (i refl)
     passed (met.Refused n) i j k = absurd (j n refl)
-    passed met.Rowless i j k =
-        seen-below arch m f (Rowless (callerOf f file)) k
-        (λ (y : Rowless (callerOf f file) ≡ End). let z : _≡_ {A = ℕ} 0 1 = cc in absurd (omega arith))
+    passed (met.Rowless r) i j k =
+        seen-below true arch m f (Rowless r (callerOf f file)) k
+        (λ (y : Rowless r (callerOf f file) ≡ End). let z : _≡_ {A = ℕ} 0 1 = cc in absurd (omega arith))
     passed (met.Row start pad action) i j k =
-        seen-below arch m f (WithRow (callerOf f file) start pad action) k
+        seen-below true arch m f (WithRow (callerOf f file) start pad action) k
         (λ (y : WithRow (callerOf f file) start pad action ≡ End). let z : _≡_ {A = ℕ} 0 1 = cc in absurd (omega arith))
 
     pub cleaning-below : ((n : ℕ) → t ≡ Refused n → ⊥) → f .number < 1024

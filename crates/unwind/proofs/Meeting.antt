@@ -1,10 +1,11 @@
 -- Laws of a frame's step and row. Assumes nothing.
 use mathlib.Core.Path.{_≡_, refl, sym, _∙_, ap}
-use mathlib.Core.Bool.{Bool, false}
+use mathlib.Core.Bool.{Bool, true, false, not, _&&_}
 use mathlib.Core.List.{List}
 use mathlib.Core.Option.{Option, none, some}
 use Prim.Native.Nat.{ℕ, _-_, _^_, _<_}
 use native.Mathlib.Omega.{arith}
+use borrow.Author.Tests.{not-false}
 use Rattle.failure.specs.Outcome as Outcome
 use Rattle.failure.specs.Outcome.{Outcome, Answer, _>>=_}
 use Rattle.mem.specs.Memory.{Memory}
@@ -16,7 +17,7 @@ use Rattle.rows.specs.declared.Row.{Row}
 use Rattle.rows.specs.declared.Row.the-variants as row
 use Rattle.lookup.specs.declared.Record.{Record}
 use Rattle.personality.specs.Reason.{rowless, offsetIn, rowAfter, rowOf}
-use Rattle.personality.proofs.Reasons.{row-2, after-run, after-refused}
+use Rattle.personality.proofs.Reasons.{row-none, row-2, after-run, after-refused}
 use Rattle.state.specs.declared.State.{State}
 use Rattle.program.specs.Run.{Ran, run}
 use Rattle.program.specs.Answers.{ended, through}
@@ -28,10 +29,11 @@ use Rattle.frame.specs.Apply.{apply}
 use Rattle.model.specs.FrameStep as Walk
 use Rattle.model.specs.FrameStep.{Frame, Step, sectionOf, callerOf, callerFile, past, frameStep}
 use Rattle.unwind.specs.Answers.{stepped, staying}
-use Rattle.unwind.specs.Turns.{passed, recordOf, located, Seen, End, seenAs, seenAt, seen, callerByRun, metRow, rowPast, meeting}
+use Rattle.unwind.specs.Turns.{passed, recordOf, located, Seen, End, Rowless, WithRow, seenAs, seenAt, seen, callerByRun, metRow, rowPast, meeting}
 use Rattle.unwind.specs.declared.Walked.the-variants as walked
 use Rattle.unwind.specs.declared.Located.{Located}
 use Rattle.unwind.specs.declared.Met.{Met}
+use Rattle.unwind.specs.declared.Met.the-variants as met
 use Rattle.unwind.proofs.Walks.{pastRecord, recordIn, step-by-record, record-bounds, by-run, by-run-refused, caller-2}
 
 module _ (arch : ℕ) (m : Memory) (f : Frame) (l v : Located) (e : located l ≡ recordIn arch m f) (p : l ≡ v) where
@@ -40,9 +42,9 @@ module _ (arch : ℕ) (m : Memory) (f : Frame) (l v : Located) (e : located l �
   step-located = step-by-record arch m f (located v) (ap located (sym p) ∙ e)
 
   -- and so a frame's step and row
-  pub seen-located : ((located v >>= pastRecord (numbers arch) m f) >>= seenAt arch m f) ≡ seen arch m f
+  pub seen-located : (rows : Bool) → ((located v >>= pastRecord (numbers arch) m f) >>= seenAt rows arch m f) ≡ seen rows arch m f
   unfolding seen
-  seen-located = ap (λ (o : Outcome Step). o >>= seenAt arch m f) step-located
+  seen-located rows = ap (λ (o : Outcome Step). o >>= seenAt rows arch m f) step-located
 
 -- a status and the file beside it tell the step
 pub passed-told : (f : Frame) (r : Record) (o : Outcome Step) (s t : Status) (file : List ℕ) → passed f r s file ≡ o → s ≡ t →
@@ -52,29 +54,43 @@ passed-told f r o s t file e p = sym e ∙ ap (λ (x : Status). passed f r x fil
 module _ (arch : ℕ) (m : Memory) (f : Frame) (r : Record) (at : ℕ) (q : at ≡ pc (f .file))
     (e : Answer (some r) ≡ recordOf (sectionOf m .bytes) (sectionOf m .base) arch (f .number) (f .interrupted) at) where
   -- a frame's step and row, by the step past its record
-  by-past : (o : Outcome Step) → past (numbers arch) m f r ≡ o → (o >>= seenAt arch m f) ≡ seen arch m f
+  by-past : (rows : Bool) (o : Outcome Step) → past (numbers arch) m f r ≡ o → (o >>= seenAt rows arch m f) ≡ seen rows arch m f
   unfolding seen
-  by-past o p =
-      ap (λ (x : Outcome Step). x >>= seenAt arch m f)
+  by-past rows o p =
+      ap (λ (x : Outcome Step). x >>= seenAt rows arch m f)
       (sym p
       ∙ step-by-record arch m f (Answer (some r))
       (e ∙ ap (λ (k : ℕ). recordOf (sectionOf m .bytes) (sectionOf m .base) arch (f .number) (f .interrupted) k) q))
 
   -- the step is refused
-  pub meets-refused : (n : ℕ) → past (numbers arch) m f r ≡ Outcome.Refused n → Outcome.Refused n ≡ seen arch m f
-  meets-refused n p = by-past (Outcome.Refused n) p
+  pub meets-refused : (rows : Bool) (n : ℕ) → past (numbers arch) m f r ≡ Outcome.Refused n → Outcome.Refused n ≡ seen rows arch m f
+  meets-refused rows n p = by-past rows (Outcome.Refused n) p
+
+  -- past the frame, where no row is asked for or it has none
+  pub meets-unasked : (rows b : Bool) → b ≡ (rows && not (rowless (f .interrupted) r at)) → b ≡ false → (file : List ℕ) →
+      past (numbers arch) m f r ≡ Answer (Walk.Past r (callerOf f file)) → meeting f file (met.Rowless r) ≡ seen rows arch m f
+  meets-unasked rows b g h file p = go rows (sym g ∙ h) ∙ by-past rows (Answer (Walk.Past r (callerOf f file))) p
+    where
+      go : (s : Bool) → (s && not (rowless (f .interrupted) r at)) ≡ false →
+          Answer (Rowless r (callerOf f file)) ≡ seenAt s arch m f (Walk.Past r (callerOf f file))
+      go true e =
+          ap (λ (o : Outcome Found). o >>= λ z. Answer (seenAs r (callerOf f file) z))
+          (row-none (numbers arch) m (f .interrupted) r at (not-false _ e) ∙ ap (λ (k : ℕ). rowOf (numbers arch) m (f .interrupted) r k) q)
+      go false e = refl
 
   -- past the frame, by its row
-  pub meets-row : (file : List ℕ) → past (numbers arch) m f r ≡ Answer (Walk.Past r (callerOf f file)) → (x : Row) →
-      found x ≡ rowOf (numbers arch) m (f .interrupted) r at → (w : Met) → w ≡ metRow (r .start) x → meeting f file w ≡ seen arch m f
-  meets-row file p x g w h =
+  pub meets-row : (rows : Bool) → rows ≡ true → (file : List ℕ) → past (numbers arch) m f r ≡ Answer (Walk.Past r (callerOf f file)) →
+      (x : Row) → found x ≡ rowOf (numbers arch) m (f .interrupted) r at → (w : Met) → w ≡ metRow r x →
+      meeting f file w ≡ seen rows arch m f
+  meets-row rows k file p x g w h =
       ap (λ (y : Met). meeting f file y) h
       ∙ by-row x
       ∙ ap (λ (o : Outcome Found). o >>= λ z. Answer (seenAs r (callerOf f file) z))
       (g ∙ ap (λ (k : ℕ). rowOf (numbers arch) m (f .interrupted) r k) q)
-      ∙ by-past (Answer (Walk.Past r (callerOf f file))) p
+      ∙ by-past true (Answer (Walk.Past r (callerOf f file))) p
+      ∙ ap (λ (b : Bool). seen b arch m f) (sym k)
     where
-      by-row : (x : Row) → meeting f file (metRow (r .start) x) ≡ (found x >>= λ z. Answer (seenAs r (callerOf f file) z))
+      by-row : (x : Row) → meeting f file (metRow r x) ≡ (found x >>= λ z. Answer (seenAs r (callerOf f file) z))
       by-row row.None = refl
       by-row (row.Is pad action) = refl
       by-row (row.Refused n) = refl
@@ -121,6 +137,43 @@ module _ (a : Arch) (m : Memory) (r : Record) (entry : State) (off : ℕ) (t : T
             ap Outcome.Refused z ∙ by-run-refused a m (r .program) (r .limit) off file k q
         go (Answer ran) q h = let z : _≡_ {A = ℕ} 0 1 = cc in absurd (omega arith)
 
+-- a row is asked for, and the frame may have one
+pub asked-rows : (rows interrupted : Bool) (r : Record) (at : ℕ) (b : Bool) → b ≡ (rows && not (rowless interrupted r at)) → b ≡ true →
+    (rows ≡ true) × (rowless interrupted r at ≡ false)
+asked-rows rows interrupted r at b e p = go rows (rowless interrupted r at) (sym e ∙ p)
+  where
+    go : (s t : Bool) → (s && not t) ≡ true → (s ≡ true) × (t ≡ false)
+    go true true e = let z : _≡_ {A = ℕ} 0 1 = cc in absurd (omega arith)
+    go true false e = (refl, refl)
+    go false t e = let z : _≡_ {A = ℕ} 0 1 = cc in absurd (omega arith)
+
+-- so that its version is not 2, where those of version 2 have gone another way
+pub not-both : (b : Bool) → b ≡ true → b ≡ false → ⊥
+not-both b e f = let z : _≡_ {A = ℕ} 0 1 = cc in absurd (omega arith)
+
+pub seen-asked : (rows : Bool) (arch : ℕ) (m : Memory) (f : Frame) → rows ≡ true → (o : Outcome Seen) → o ≡ seen true arch m f →
+    o ≡ seen rows arch m f
+seen-asked rows arch m f h o e = e ∙ ap (λ (b : Bool). seen b arch m f) (sym h)
+
+-- the step that was seen where no row is asked for; a row stands for the end, as none comes
+abbrev pub stepOf : Seen → Step
+stepOf End = Walk.End
+stepOf (Rowless r next) = Walk.Past r next
+stepOf (WithRow next start pad action) = Walk.End
+
+-- the frame step, by a frame that was met without asking for its row
+pub step-met : (arch : ℕ) (m : Memory) (f : Frame) (file : List ℕ) (w v : Met) → meeting f file w ≡ seen false arch m f → w ≡ v →
+    (meeting f file v >>= λ x. Answer (stepOf x)) ≡ frameStep arch m f
+unfolding seen
+step-met arch m f file w v e p =
+    ap (λ (o : Outcome Seen). o >>= λ x. Answer (stepOf x)) (ap (λ (x : Met). meeting f file x) (sym p) ∙ e)
+    ∙ go (frameStep arch m f)
+  where
+    go : (o : Outcome Step) → ((o >>= seenAt false arch m f) >>= λ x. Answer (stepOf x)) ≡ o
+    go (Outcome.Refused n) = refl
+    go (Answer Walk.End) = refl
+    go (Answer (Walk.Past r next)) = refl
+
 -- the answer of a step, beside the frame that came in
 pub stays : (f : Frame) (o : Outcome Step) → Answer Walk.End ≡ o → staying walked.End f ≡ stepped f o
 stays f o e = ap (stepped f) e
@@ -141,6 +194,14 @@ step-below {A = A} arch m f k x e h = go (recordIn arch m f) refl
     go (Answer none) p = absurd (h (e ∙ sym (ap (λ (y : Outcome Step). y >>= k) (step-by-record arch m f (Answer none) p))))
     go (Answer (some r)) p = record-bounds _ _ _ _ _ _ r p .1
 
-pub seen-below : (arch : ℕ) (m : Memory) (f : Frame) (x : Seen) → Answer x ≡ seen arch m f → (x ≡ End → ⊥) → f .number < 1024
+pub seen-below : (rows : Bool) (arch : ℕ) (m : Memory) (f : Frame) (x : Seen) → Answer x ≡ seen rows arch m f → (x ≡ End → ⊥) →
+    f .number < 1024
 unfolding seen
-seen-below arch m f x e h = step-below arch m f (seenAt arch m f) x e (λ (q : Answer x ≡ Answer End). let z : x ≡ End = cc in h z)
+seen-below rows arch m f x e h =
+    step-below arch m f (seenAt rows arch m f) x e (λ (q : Answer x ≡ Answer End). let z : x ≡ End = cc in h z)
+
+pub met-below : (arch : ℕ) (m : Memory) (f : Frame) (file : List ℕ) (w : Met) (r : Record) → meeting f file w ≡ seen false arch m f →
+    w ≡ met.Rowless r → f .number < 1024
+met-below arch m f file w r e p =
+    seen-below false arch m f (Rowless r (callerOf f file)) (ap (λ (x : Met). meeting f file x) (sym p) ∙ e)
+    (λ (q : Rowless r (callerOf f file) ≡ End). let z : _≡_ {A = ℕ} 0 1 = cc in absurd (omega arith))

@@ -1,5 +1,6 @@
 -- Laws of the search phase, turn by turn. Assumes nothing.
 use mathlib.Core.Path.{_≡_, refl, sym, _∙_, ap}
+use mathlib.Core.Bool.{true}
 use mathlib.Core.List.{List}
 use Prim.Native.Nat.{ℕ, zero, suc, _+_, _≤_, _<_}
 use native.Mathlib.Omega.{arith}
@@ -12,6 +13,7 @@ use Rattle.arch.specs.Arch.{numbers}
 use Rattle.arch.specs.File.{sp, pc}
 use Rattle.rows.specs.Row as Row
 use Rattle.rows.specs.Row.{Found}
+use Rattle.lookup.specs.declared.Record.{Record}
 use Rattle.personality.specs.Reason.{rowOf, searchedCode}
 use Rattle.model.specs.FrameStep as Walk
 use Rattle.model.specs.FrameStep.{Frame, Step, callerOf, frameStep}
@@ -50,8 +52,8 @@ module _ (number v : ℕ) (w : Met) where
   turn-ended e rest = rw e
 
   -- no row
-  pub turn-rowless : w ≡ met.Rowless → SearchTurn number v w On
-  turn-rowless e rest = rw e
+  pub turn-rowless : (r : Record) → w ≡ met.Rowless r → SearchTurn number v w On
+  turn-rowless r e rest = rw e
 
   -- a row
   pub turn-row : (start pad action : ℕ) → w ≡ met.Row start pad action → (t : Looking) → Follows number v action t →
@@ -77,11 +79,11 @@ module _ (arch : ℕ) (m : Memory) (f : Frame) where
   -- what a frame's step and row say
   abbrev bySeen : (Frame → Outcome Searched) → Seen → Outcome Searched
   bySeen rest End = Answer Search.Ended
-  bySeen rest (Rowless next) = rest next
+  bySeen rest (Rowless r next) = rest next
   bySeen rest (WithRow next start pad action) = byCode (numbers arch) f (searchedCode action) (rest next)
 
   by-seen : (rest : Frame → Outcome Searched) (o : Outcome Step) →
-      (o >>= searchAt arch m f rest) ≡ ((o >>= seenAt arch m f) >>= bySeen rest)
+      (o >>= searchAt arch m f rest) ≡ ((o >>= seenAt true arch m f) >>= bySeen rest)
   by-seen rest (Outcome.Refused n) = refl
   by-seen rest (Answer Walk.End) = refl
   by-seen rest (Answer (Walk.Past r next)) = go (rowOf (numbers arch) m (f .interrupted) r (pc (f .file)))
@@ -93,7 +95,7 @@ module _ (arch : ℕ) (m : Memory) (f : Frame) where
       go (Answer Row.None) = refl
       go (Answer (Row.Pad pad action)) = refl
 
-  module _ (file : List ℕ) (w : Met) (e : meeting f file w ≡ seen arch m f) (k : ℕ) (p : k ≡ numbers arch .sp) where
+  module _ (file : List ℕ) (w : Met) (e : meeting f file w ≡ seen true arch m f) (k : ℕ) (p : k ≡ numbers arch .sp) where
     abbrev v : ℕ
     v = getD (f .file) k 0
 
@@ -106,7 +108,7 @@ module _ (arch : ℕ) (m : Memory) (f : Frame) where
       where
         go : (w : Met) → (meeting f file w >>= bySeen rest) ≡ searchMet (f .number) v w (rest (callerOf f file))
         go met.End = refl
-        go met.Rowless = refl
+        go (met.Rowless r) = refl
         go (met.Row start pad action) = rw p
         go (met.Refused n) = refl
 
@@ -118,14 +120,14 @@ module _ (arch : ℕ) (m : Memory) (f : Frame) where
           two : (y : Outcome Searched) → Outcome.Refused 0 ≡ y → Outcome.Refused 1 ≡ y → ⊥
           two y p q = let z : _≡_ {A = ℕ} 0 1 = cc in absurd (omega arith)
 
-          go : (w : Met) → meeting f file w ≡ seen arch m f → ((x : Outcome Searched) → x ≡ searchMet (f .number) v w x) → f .number < 1024
+          go : (w : Met) → meeting f file w ≡ seen true arch m f → ((x : Outcome Searched) → x ≡ searchMet (f .number) v w x) → f .number < 1024
           go met.End e on = absurd (two _ (on (Outcome.Refused 0)) (on (Outcome.Refused 1)))
           go (met.Refused n) e on = absurd (two _ (on (Outcome.Refused 0)) (on (Outcome.Refused 1)))
-          go met.Rowless e on =
-              seen-below arch m f (Rowless (callerOf f file)) e
-              (λ (q : Rowless (callerOf f file) ≡ End). let z : _≡_ {A = ℕ} 0 1 = cc in absurd (omega arith))
+          go (met.Rowless r) e on =
+              seen-below true arch m f (Rowless r (callerOf f file)) e
+              (λ (q : Rowless r (callerOf f file) ≡ End). let z : _≡_ {A = ℕ} 0 1 = cc in absurd (omega arith))
           go (met.Row start pad action) e on =
-              seen-below arch m f (WithRow (callerOf f file) start pad action) e
+              seen-below true arch m f (WithRow (callerOf f file) start pad action) e
               (λ (q : WithRow (callerOf f file) start pad action ≡ End). let z : _≡_ {A = ℕ} 0 1 = cc in absurd (omega arith))
 
       module _ (whole : Outcome Searched) (s : Searching arch m whole f) where

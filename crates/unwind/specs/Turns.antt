@@ -85,25 +85,29 @@ located place.End = Answer none
 located (place.At r) = Answer (some r)
 located (place.Refused n) = Outcome.Refused n
 
--- what a frame's step and row come to: the end; the caller where the frame has no row; the caller with the record's start and the row
+-- what a frame's step and row come to: the end; the record and the caller where no row is found or asked for; the caller with the
+-- record's start and the row
 pub data Seen : Type 0 where
   End : Seen
-  Rowless : Frame → Seen
+  Rowless : Record → Frame → Seen
   WithRow : Frame → (start pad action : ℕ) → Seen
 
 abbrev pub seenAs : Record → Frame → Found → Seen
-seenAs r next Found.None = Rowless next
+seenAs r next Found.None = Rowless r next
 seenAs r next (Found.Pad pad action) = WithRow next (r .start) pad action
 
-abbrev pub seenAt : ℕ → Memory → Frame → Step → Outcome Seen
-seenAt arch m f Walk.End = Answer End
-seenAt arch m f (Walk.Past r next) = do
+abbrev pub rowSeen : ℕ → Memory → Frame → Record → Frame → Outcome Seen
+rowSeen arch m f r next = do
   row ← rowOf (numbers arch) m (f .interrupted) r (pc (f .file))
   Answer (seenAs r next row)
 
--- a frame's step, then its row
-unfoldable pub seen : ℕ → Memory → Frame → Outcome Seen
-seen arch m f = frameStep arch m f >>= seenAt arch m f
+abbrev pub seenAt : Bool → ℕ → Memory → Frame → Step → Outcome Seen
+seenAt rows arch m f Walk.End = Answer End
+seenAt rows arch m f (Walk.Past r next) = if rows then rowSeen arch m f r next else Answer (Rowless r next)
+
+-- a frame's step, then its row if rows are asked for
+unfoldable pub seen : Bool → ℕ → Memory → Frame → Outcome Seen
+seen rows arch m f = frameStep arch m f >>= seenAt rows arch m f
 
 -- the after-address of a run that came to this status
 abbrev pub endTold : Ending → ℕ → Outcome ℕ
@@ -114,16 +118,16 @@ endTold (ending.Refused n) after = Outcome.Refused n
 abbrev pub rowPast : Memory → Ending → ℕ → ℕ → ℕ → Outcome Found
 rowPast m end after limit ret = endTold end after >>= λ next. handler2 m next limit ret
 
--- a row that was found, with the start of its record
-abbrev pub metRow : ℕ → Row → Met
-metRow start row.None = met.Rowless
-metRow start (row.Is pad action) = met.Row start pad action
-metRow start (row.Refused n) = met.Refused n
+-- a row that was found, with its record
+abbrev pub metRow : Record → Row → Met
+metRow r row.None = met.Rowless r
+metRow r (row.Is pad action) = met.Row (r .start) pad action
+metRow r (row.Refused n) = met.Refused n
 
 -- the same as the code tells it, where the caller has this file
 abbrev pub meeting : Frame → List ℕ → Met → Outcome Seen
 meeting f file met.End = Answer End
-meeting f file met.Rowless = Answer (Rowless (callerOf f file))
+meeting f file (met.Rowless r) = Answer (Rowless r (callerOf f file))
 meeting f file (met.Row start pad action) = Answer (WithRow (callerOf f file) start pad action)
 meeting f file (met.Refused n) = Outcome.Refused n
 
@@ -146,7 +150,7 @@ Follows number sp action t = (rest : Outcome Searched) → searchOr t rest ≡ b
 -- what a frame that was met says; `rest` is what the frames after it come to
 abbrev pub searchMet : ℕ → ℕ → Met → Outcome Searched → Outcome Searched
 searchMet number sp met.End rest = Answer Search.Ended
-searchMet number sp met.Rowless rest = rest
+searchMet number sp (met.Rowless r) rest = rest
 searchMet number sp (met.Row start pad action) rest = byAction number sp action rest
 searchMet number sp (met.Refused n) rest = Outcome.Refused n
 
@@ -167,7 +171,7 @@ cleanRow below same start pad action =
 -- a frame that was met, in the cleanup phase
 abbrev pub cleanMet : Bool → Bool → Met → Cleaning
 cleanMet below same met.End = cleaning.Refused HandlerFrameMissed
-cleanMet below same met.Rowless = if below then cleaning.On else cleaning.Refused HandlerFrameMissed
+cleanMet below same (met.Rowless r) = if below then cleaning.On else cleaning.Refused HandlerFrameMissed
 cleanMet below same (met.Row start pad action) = cleanRow below same start pad action
 cleanMet below same (met.Refused n) = cleaning.Refused n
 

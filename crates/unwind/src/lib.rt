@@ -49,13 +49,13 @@ use lookup::lookup_part;
 use mem::opening;
 use mem::wrapping;
 use model::Unwinding;
-use personality::row_of;
 use personality::rowless;
 use program::run_program;
 use program::run_through;
 use rows::ACTION_CATCH;
 use rows::ACTION_CLEANUP;
 use rows::Row;
+use rows::handler::handler_at;
 use rows::handler2::handler2_at;
 use state::State;
 
@@ -154,11 +154,11 @@ enum Given {
     Refused(u32),
 }
 
-// A frame and its row: the walk ends; it is past the frame, which has no row, or one with the start of its record, pad and action;
-// or a refusal.
+// A frame that was met: the walk ends; it is past the frame with this record, and no row was found or asked for; it is past the frame,
+// whose row is told with the start of the record, the pad and the action; or a refusal.
 enum Met {
     End,
-    Rowless,
+    Rowless(Record),
     Row(usize, usize, usize),
     Refused(u32),
 }
@@ -413,13 +413,13 @@ fn locate(
     }
 }
 
-// A row that was found, with the start of its record.
-fn met_row(start: usize, row: Row) -> Met
-    ensures { λ r. ⌜ r ≡ metRow start row ⌝ }
+// A row that was found, with its record.
+fn met_row(record: Record, row: Row) -> Met
+    ensures { λ r. ⌜ r ≡ metRow «record» row ⌝ }
 {
     match row {
-        Row::None => Met::Rowless,
-        Row::Is(pad, action) => Met::Row(start, pad, action),
+        Row::None => Met::Rowless(record),
+        Row::Is(pad, action) => Met::Row(record.start, pad, action),
         Row::Refused(n) => Met::Refused(n),
     }
 }
@@ -476,7 +476,7 @@ fn meet_through<'a>(
         ⌝ }
     ensures { λ r. ⌜
         meeting (frameWith number interrupted (now (file .entry))) (now (file .exit)) r ≡
-        seen arch
+        seen true arch
         (lent (now (section .entry)) «section_base» (now (stack .entry)) «stack_base» .regions)
         (frameWith number interrupted (now (file .entry)))
         ⌝ }
@@ -520,7 +520,7 @@ fn meet_through<'a>(
                         record.limit,
                         ret,
                     );
-                    met_row(record.start, row)
+                    met_row(record, row)
                 }
                 Status::Refused(n) => Met::Refused(n),
             }
@@ -529,7 +529,17 @@ fn meet_through<'a>(
     }
 }
 
-// A frame with its record: its step, then its row.
+// A row is asked for, and the frame may have one.
+fn asked(rows: bool, interrupted: bool, record: Record, pc: usize) -> bool
+    ensures { λ r. ⌜ r ≡ (rows && not (rowless interrupted «record» pc)) ⌝ }
+{
+    if rows {
+        return !rowless(interrupted, record, pc);
+    }
+    false
+}
+
+// A frame with its record: its step, then its row if rows are asked for.
 fn meet_at<'a>(
     section: &'a [u8],
     section_base: usize,
@@ -538,6 +548,7 @@ fn meet_at<'a>(
     arch: u8,
     number: usize,
     interrupted: bool,
+    rows: bool,
     record: Record,
     pc: usize,
     file: &mut [usize; COLUMNS],
@@ -548,13 +559,14 @@ fn meet_at<'a>(
         ⌝ }
     ensures { λ r. ⌜
         meeting (frameWith number interrupted (now (file .entry))) (now (file .exit)) r ≡
-        seen arch
+        seen rows arch
         (lent (now (section .entry)) «section_base» (now (stack .entry)) «stack_base» .regions)
         (frameWith number interrupted (now (file .entry)))
         ⌝ }
 {
+    let row_asked = asked(rows, interrupted, record, pc);
     if record.version == VERSION2 {
-        if !rowless(interrupted, record, pc) {
+        if row_asked {
             return meet_through(
                 section,
                 section_base,
@@ -583,23 +595,24 @@ fn meet_at<'a>(
         file,
     ) {
         Status::Done => {
-            let row = row_of(
+            if !row_asked {
+                return Met::Rowless(record);
+            }
+            let row = handler_at(
                 section,
                 section_base,
                 stack,
                 stack_base,
-                arch,
-                interrupted,
-                record,
-                pc,
+                record.handlers,
+                (pc - record.start) % 0x1_0000_0000,
             );
-            met_row(record.start, row)
+            met_row(record, row)
         }
         Status::Refused(n) => Met::Refused(n),
     }
 }
 
-// A frame: its step, then its row.
+// A frame: its step, then its row if rows are asked for. It alone calls what it is made of, which is so compiled into it.
 fn meet<'a>(
     section: &'a [u8],
     section_base: usize,
@@ -608,11 +621,12 @@ fn meet<'a>(
     arch: u8,
     number: usize,
     interrupted: bool,
+    rows: bool,
     file: &mut [usize; COLUMNS],
 ) -> Met
     ensures { λ r. ⌜
         meeting (frameWith number interrupted (now (file .entry))) (now (file .exit)) r ≡
-        seen arch
+        seen rows arch
         (lent (now (section .entry)) «section_base» (now (stack .entry)) «stack_base» .regions)
         (frameWith number interrupted (now (file .entry)))
         ⌝ }
@@ -628,6 +642,7 @@ fn meet<'a>(
             arch,
             number,
             interrupted,
+            rows,
             record,
             pc,
             file,
@@ -679,30 +694,26 @@ fn step_from<'a>(
         ⌝ }
 {
     let mut file = regs.r;
-    let pc = file[PC_COLUMN];
-    match locate(section, section_base, arch, number, interrupted, pc) {
-        Located::End => stayed(Walked::End, number, interrupted, regs),
-        Located::At(record) => match past(
-            section,
-            section_base,
-            stack,
-            stack_base,
-            arch,
-            number,
-            interrupted,
-            record,
-            looked_up(interrupted, pc),
-            &mut file,
-        ) {
-            Status::Done => Stepped {
-                answer: Walked::Past(record),
-                number: number + 1,
-                interrupted: false,
-                regs: Regs { r: file },
-            },
-            Status::Refused(n) => stayed(Walked::Refused(n), number, interrupted, regs),
+    match meet(
+        section,
+        section_base,
+        stack,
+        stack_base,
+        arch,
+        number,
+        interrupted,
+        false,
+        &mut file,
+    ) {
+        Met::End => stayed(Walked::End, number, interrupted, regs),
+        Met::Rowless(record) => Stepped {
+            answer: Walked::Past(record),
+            number: number + 1,
+            interrupted: false,
+            regs: Regs { r: file },
         },
-        Located::Refused(n) => stayed(Walked::Refused(n), number, interrupted, regs),
+        Met::Row(_, _, _) => stayed(Walked::End, number, interrupted, regs),
+        Met::Refused(n) => stayed(Walked::Refused(n), number, interrupted, regs),
     }
 }
 
@@ -758,25 +769,21 @@ fn pass<'a>(
         (frameWith number interrupted (now (file .entry)))
         ⌝ }
 {
-    let pc = file[PC_COLUMN];
-    match locate(section, section_base, arch, number, interrupted, pc) {
-        Located::End => Given::End,
-        Located::At(record) => match past(
-            section,
-            section_base,
-            stack,
-            stack_base,
-            arch,
-            number,
-            interrupted,
-            record,
-            looked_up(interrupted, pc),
-            file,
-        ) {
-            Status::Done => Given::Frame(record.start),
-            Status::Refused(n) => Given::Refused(n),
-        },
-        Located::Refused(n) => Given::Refused(n),
+    match meet(
+        section,
+        section_base,
+        stack,
+        stack_base,
+        arch,
+        number,
+        interrupted,
+        false,
+        file,
+    ) {
+        Met::End => Given::End,
+        Met::Rowless(record) => Given::Frame(record.start),
+        Met::Row(_, _, _) => Given::End,
+        Met::Refused(n) => Given::Refused(n),
     }
 }
 
@@ -931,7 +938,7 @@ fn search_turn(number: usize, sp: usize, met: Met) -> Looking
 {
     match met {
         Met::End => Looking::Stop(RaiseAnswer::Ended),
-        Met::Rowless => Looking::On,
+        Met::Rowless(_) => Looking::On,
         Met::Row(_, _, action) => search_action(number, sp, action),
         Met::Refused(n) => Looking::Stop(RaiseAnswer::Refused(n)),
     }
@@ -968,6 +975,7 @@ fn search<'a>(
             arch,
             number,
             first,
+            true,
             &mut file,
         );
         match search_turn(number, sp, met) {
@@ -1080,7 +1088,7 @@ fn clean_turn(is_below: bool, same_sp: bool, met: Met) -> Cleaning
 {
     match met {
         Met::End => Cleaning::Refused(HANDLER_FRAME_MISSED),
-        Met::Rowless => {
+        Met::Rowless(_) => {
             if is_below {
                 return Cleaning::On;
             }
@@ -1162,6 +1170,7 @@ fn clean<'a>(
             arch,
             number,
             interrupted,
+            true,
             &mut file,
         );
         match clean_turn(

@@ -2,16 +2,13 @@
 use mathlib.Core.Path.{sym, _∙_, ap, subst}
 use mathlib.Core.List.{List}
 use Prim.Native.Nat.{ℕ}
-use native.Mathlib.Omega.{arith}
 use lib.ListN.{getD}
 use denote.Ref.{now}
 use borrow.Author.Needs.{needs}
-use borrow.Author.Tests.{not-false}
 use Rattle.failure.specs.Outcome.{Outcome}
 use Rattle.arch.specs.Answers.{valued, InPlace}
-use Rattle.arch.proofs.InPlace.{place-done, place-refused}
-use Rattle.frame.specs.Near.{Near}
-use Rattle.frame.proofs.Saves.{saves, saves-few}
+use Rattle.arch.proofs.InPlace.{place-refused}
+use Rattle.frame.proofs.Saves.{saves}
 use Rattle.frame.proofs.Stepped.{word-refused, word-passes}
 use Rattle.frame.proofs.step_into.Statement.{statement}
 use Rattle.frame.proofs.step_into.Tie as tie
@@ -43,44 +40,22 @@ enum-known-cfa c = search needs
 named-count-requires : tie.Need-named-count-requires
 named-count-requires c κs = search needs
 
-deepest-requires : tie.Need-deepest-requires
-deepest-requires c κs =
-    let file = now (c .before .before .before .before .before .before .before .before .before .before .before .args .file) in
-    saves-few _ _ _ (saves _ _ _ file _ _ (sym (ap valued (c .before .before .cfa .given .1)) ∙ c .before .before .before .before .frame-cfa .ensures file (ap (λ (k : ℕ). getD file k 0) (c .before .before .before .before .before .before .before .before .sp-column .ensures .0)) (ap (λ (k : ℕ). getD file k 0) (c .before .before .before .before .before .before .before .fp-column .ensures .0))) (c .named-count .ensures))
-
-near-requires : tie.Need-near-requires
-near-requires c κs = omega (arith, c .deepest .ensures .1)
-
-step-plain-requires : tie.Need-step-plain-requires
-step-plain-requires c κs =
-    let file = now (c .before .before .before .before .before .before .before .before .before .before .before .before .before .before .before .args .file) in
-    saves _ _ _ file _ _ (sym (ap valued (c .before .before .before .before .before .before .cfa .given .1)) ∙ c .before .before .before .before .before .before .before .before .frame-cfa .ensures file (ap (λ (k : ℕ). getD file k 0) (c .before .before .before .before .before .before .before .before .before .before .before .before .sp-column .ensures .0)) (ap (λ (k : ℕ). getD file k 0) (c .before .before .before .before .before .before .before .before .before .before .before .fp-column .ensures .0))) (c .before .before .before .before .named-count .ensures)
-
-returns : tie.Need-returns
-returns c =
-    let file = now (c .before .before .before .before .before .before .before .before .before .before .before .before .before .before .before .before .args .file) in
-    subst (λ (o : Outcome (List ℕ)). InPlace file o (c .step-plain .result) (c .step-plain .last .1 .1 .1 .1 .1 .1 .1 .1 .0))
-    (word-passes _ _ _ _ file _ (sym (ap valued (c .before .before .before .before .before .before .before .cfa .given .1)) ∙ c .before .before .before .before .before .before .before .before .before .frame-cfa .ensures file (ap (λ (k : ℕ). getD file k 0) (c .before .before .before .before .before .before .before .before .before .before .before .before .before .sp-column .ensures .0)) (ap (λ (k : ℕ). getD file k 0) (c .before .before .before .before .before .before .before .before .before .before .before .before .fp-column .ensures .0)))) (c .step-plain .ensures)
-
-step-near-requires : tie.Need-step-near-requires
-step-near-requires c κs =
-    let x = c .before .before .before .before .before .before .before .before .before .before .before .before .before .before .before .args in
-    let file = now (x .file) in (
-      subst (λ (d : ℕ). Near (now (x .section)) (x .section-base) (now (x .stack)) (x .stack-base) (c .before .before .before .before .before .before .cfa .given .0 .0) d)
-          (c .before .before .before .deepest .ensures .0) (c .before .before .near .ensures (not-false _ (c .before .if1 .left)) .1),
-      saves _ _ _ file _ _ (sym (ap valued (c .before .before .before .before .before .before .cfa .given .1)) ∙ c .before .before .before .before .before .before .before .before .frame-cfa .ensures file (ap (λ (k : ℕ). getD file k 0) (c .before .before .before .before .before .before .before .before .before .before .before .before .sp-column .ensures .0)) (ap (λ (k : ℕ). getD file k 0) (c .before .before .before .before .before .before .before .before .before .before .before .fp-column .ensures .0))) (c .before .before .before .before .named-count .ensures),
-    )
+step-at-requires : tie.Need-step-at-requires
+step-at-requires c κs =
+    let file = now (c .before .before .before .before .before .before .before .before .before .before .before .before .args .file) in
+    saves _ _ _ file _ _ (sym (ap valued (c .before .before .before .cfa .given .1)) ∙ c .before .before .before .before .before .frame-cfa .ensures file (ap (λ (k : ℕ). getD file k 0) (c .before .before .before .before .before .before .before .before .before .sp-column .ensures .0)) (ap (λ (k : ℕ). getD file k 0) (c .before .before .before .before .before .before .before .before .fp-column .ensures .0))) (c .before .named-count .ensures)
 
 enum-known-n : tie.Need-enum-known-n
 enum-known-n c = search needs
 
+returns : tie.Need-returns
+returns c =
+    let file = now (c .before .before .before .before .before .before .before .before .before .before .before .before .before .args .file) in
+    subst (λ (o : Outcome (List ℕ)). InPlace file o (c .step-at .result) (c .step-at .last .1 .1 .1 .1 .1 .1 .1 .1 .0))
+    (word-passes _ _ _ _ file _ (sym (ap valued (c .before .before .before .before .cfa .given .1)) ∙ c .before .before .before .before .before .before .frame-cfa .ensures file (ap (λ (k : ℕ). getD file k 0) (c .before .before .before .before .before .before .before .before .before .before .sp-column .ensures .0)) (ap (λ (k : ℕ). getD file k 0) (c .before .before .before .before .before .before .before .before .before .fp-column .ensures .0)))) (c .step-at .ensures)
+
 returns-2 : tie.Need-returns-2
 returns-2 c =
-    let file = now (c .before .before .before .before .before .before .before .before .before .before .before .before .before .before .before .before .args .file) in
-    place-done _ _ _ (sym (word-passes _ _ _ _ file _ (sym (ap valued (c .before .before .before .before .before .before .before .cfa .given .1)) ∙ c .before .before .before .before .before .before .before .before .before .frame-cfa .ensures file (ap (λ (k : ℕ). getD file k 0) (c .before .before .before .before .before .before .before .before .before .before .before .before .before .sp-column .ensures .0)) (ap (λ (k : ℕ). getD file k 0) (c .before .before .before .before .before .before .before .before .before .before .before .before .fp-column .ensures .0)))) ∙ c .step-near .ensures)
-
-returns-3 : tie.Need-returns-3
-returns-3 c =
     let file = now (c .before .before .before .before .before .before .before .before .before .before .args .file) in
     place-refused _ _ _ (sym (word-refused _ _ _ _ file _ (sym (ap valued (c .before .n .given .1)) ∙ c .before .before .before .frame-cfa .ensures file (ap (λ (k : ℕ). getD file k 0) (c .before .before .before .before .before .before .before .sp-column .ensures .0)) (ap (λ (k : ℕ). getD file k 0) (c .before .before .before .before .before .before .fp-column .ensures .0)))))
 
@@ -97,11 +72,7 @@ step-into-spec =
     frame-cfa-requires
     enum-known-cfa
     named-count-requires
-    deepest-requires
-    near-requires
-    step-plain-requires
-    returns
-    step-near-requires
+    step-at-requires
     enum-known-n
-    returns-2
-    returns-3)
+    returns
+    returns-2)

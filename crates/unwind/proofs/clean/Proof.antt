@@ -49,7 +49,7 @@ enum-told c =
 -- a turn that goes on has passed the frame
 below : (c : tie.After-enum-told Inv-loop μ-loop) → c .before .before .before .before .before .before .before .loop .number < 1024
 below c =
-    cleaning-below _ _ (c .before .before .before .before .before .before .before .before .before .before .before .before .before .args .unwinding) _ (c .before .before .before .before .before .meet .last .1 .1 .1 .1 .1 .1 .1 .0) (c .before .before .before .before .before .meet .result) (c .before .before .before .before .before .meet .ensures) _ _ refl _ (c .before .before .before .before .before .before .before .before .before .before .sp-column .ensures .0) refl _
+    cleaning-below _ _ (c .before .before .before .before .before .before .before .before .before .before .before .before .before .args .unwinding) _ (c .before .before .before .before .before .meet .last .1 .1 .1 .1 .1 .1 .1 .1 .0) (c .before .before .before .before .before .meet .result) (c .before .before .before .before .before .meet .ensures) _ _ refl _ (c .before .before .before .before .before .before .before .before .before .before .sp-column .ensures .0) refl _
     (c .before .before .clean-turn .ensures)
     (λ (n : ℕ) (e : c .before .before .clean-turn .result ≡ Refused n). apart-on n (sym (c .enum-told .given .1) ∙ e))
 
@@ -63,7 +63,7 @@ loop-less c =
 
 loop-again : tie.Need-loop-again Inv-loop μ-loop
 loop-again c =
-    cleaning-on _ _ _ _ (c .before .before .before .before .before .meet .last .1 .1 .1 .1 .1 .1 .1 .0) (c .before .before .before .before .before .meet .result) (c .before .before .before .before .before .meet .ensures) _ _ refl _ (c .before .before .before .before .before .before .before .before .before .before .sp-column .ensures .0) refl _
+    cleaning-on _ _ _ _ (c .before .before .before .before .before .meet .last .1 .1 .1 .1 .1 .1 .1 .1 .0) (c .before .before .before .before .before .meet .result) (c .before .before .before .before .before .meet .ensures) _ _ refl _ (c .before .before .before .before .before .before .before .before .before .before .sp-column .ensures .0) refl _
     (c .before .before .clean-turn .ensures) (c .before .before .before .before .before .before .before .loop .inv) (c .enum-told .given .1)
 
 enum-known-start : tie.Need-enum-known-start Inv-loop μ-loop
@@ -77,7 +77,7 @@ install-requires c κs =
 -- so has a landing
 below-landing : (c : tie.After-install Inv-loop μ-loop) → c .before .before .before .before .before .before .before .before .before .before .loop .number < 1024
 below-landing c =
-    cleaning-below _ _ (c .before .before .before .before .before .before .before .before .before .before .before .before .before .before .before .before .args .unwinding) _ (c .before .before .before .before .before .before .before .before .meet .last .1 .1 .1 .1 .1 .1 .1 .0) (c .before .before .before .before .before .before .before .before .meet .result) (c .before .before .before .before .before .before .before .before .meet .ensures) _ _ refl _ (c .before .before .before .before .before .before .before .before .before .before .before .before .before .sp-column .ensures .0) refl _
+    cleaning-below _ _ (c .before .before .before .before .before .before .before .before .before .before .before .before .before .before .before .before .args .unwinding) _ (c .before .before .before .before .before .before .before .before .meet .last .1 .1 .1 .1 .1 .1 .1 .1 .0) (c .before .before .before .before .before .before .before .before .meet .result) (c .before .before .before .before .before .before .before .before .meet .ensures) _ _ refl _ (c .before .before .before .before .before .before .before .before .before .before .before .before .before .sp-column .ensures .0) refl _
     (c .before .before .before .before .before .clean-turn .ensures)
     (λ (n : ℕ) (e : c .before .before .before .before .before .clean-turn .result ≡ Refused n). apart-install _ _ n (sym (c .before .before .before .start .given .1) ∙ e))
 
@@ -91,7 +91,7 @@ going-on-requires c κs =
 
 returns : tie.Need-returns Inv-loop μ-loop
 returns c =
-    cleaning-lands _ _ _ _ (c .before .before .before .before .before .before .before .before .before .meet .last .1 .1 .1 .1 .1 .1 .1 .0) (c .before .before .before .before .before .before .before .before .before .meet .result) (c .before .before .before .before .before .before .before .before .before .meet .ensures) _ _ refl _ (c .before .before .before .before .before .before .before .before .before .before .before .before .before .before .sp-column .ensures .0) refl _
+    cleaning-lands _ _ _ _ (c .before .before .before .before .before .before .before .before .before .meet .last .1 .1 .1 .1 .1 .1 .1 .1 .0) (c .before .before .before .before .before .before .before .before .before .meet .result) (c .before .before .before .before .before .before .before .before .before .meet .ensures) _ _ refl _ (c .before .before .before .before .before .before .before .before .before .before .before .before .before .before .sp-column .ensures .0) refl _
     (c .before .before .before .before .before .before .clean-turn .ensures) (c .before .before .before .before .before .before .before .before .before .before .before .loop .inv) _ _ (c .before .before .before .before .start .given .1) _
     (c .before .install .ensures) _ (c .going-on .ensures)
 
@@ -105,7 +105,7 @@ kept-requires c κs =
 
 returns-2 : tie.Need-returns-2 Inv-loop μ-loop
 returns-2 c =
-    c .kept .ensures ∙ cleaning-fatal _ _ _ _ (c .before .before .before .before .before .before .meet .last .1 .1 .1 .1 .1 .1 .1 .0) (c .before .before .before .before .before .before .meet .result) (c .before .before .before .before .before .before .meet .ensures) _ _ refl _ (c .before .before .before .before .before .before .before .before .before .before .before .sp-column .ensures .0) refl _
+    c .kept .ensures ∙ cleaning-fatal _ _ _ _ (c .before .before .before .before .before .before .meet .last .1 .1 .1 .1 .1 .1 .1 .1 .0) (c .before .before .before .before .before .before .meet .result) (c .before .before .before .before .before .before .meet .ensures) _ _ refl _ (c .before .before .before .before .before .before .before .before .before .before .before .sp-column .ensures .0) refl _
     (c .before .before .before .clean-turn .ensures) (c .before .before .before .before .before .before .before .before .loop .inv) (c .before .enum-told2 .given .1)
 
 enum-known-n : tie.Need-enum-known-n Inv-loop μ-loop
@@ -118,7 +118,7 @@ kept-requires-2 c κs =
 
 returns-3 : tie.Need-returns-3 Inv-loop μ-loop
 returns-3 c =
-    c .kept2 .ensures ∙ cleaning-refused _ _ _ _ (c .before .before .before .before .before .before .before .meet .last .1 .1 .1 .1 .1 .1 .1 .0) (c .before .before .before .before .before .before .before .meet .result) (c .before .before .before .before .before .before .before .meet .ensures) _ _ refl _ (c .before .before .before .before .before .before .before .before .before .before .before .before .sp-column .ensures .0) refl _
+    c .kept2 .ensures ∙ cleaning-refused _ _ _ _ (c .before .before .before .before .before .before .before .meet .last .1 .1 .1 .1 .1 .1 .1 .1 .0) (c .before .before .before .before .before .before .before .meet .result) (c .before .before .before .before .before .before .before .meet .ensures) _ _ refl _ (c .before .before .before .before .before .before .before .before .before .before .before .before .sp-column .ensures .0) refl _
     (c .before .before .before .before .clean-turn .ensures) (c .before .before .before .before .before .before .before .before .before .loop .inv) _ (c .before .before .n .given .1)
 
 pub clean-spec : {M : Type 1} → statement M

@@ -27,14 +27,14 @@ enum-known-n c = search needs
 
 returns : tie.Need-returns
 returns c =
-    seen-located _ _ _ _ _ (c .before .before .locate .ensures) (c .enum-told .given .1)
+    seen-located _ _ _ _ _ (c .before .before .locate .ensures) (c .enum-told .given .1) _
 
 returns-2 : tie.Need-returns-2
 returns-2 c = search needs
 
 returns-3 : tie.Need-returns-3
 returns-3 c =
-    seen-located _ _ _ _ _ (c .before .before .before .locate .ensures) (c .before .n .given .1)
+    seen-located _ _ _ _ _ (c .before .before .before .locate .ensures) (c .before .n .given .1) _
 
 pub meet-spec : {M : Type 1} → statement M
 meet-spec =

@@ -68,7 +68,7 @@ enum-known-status c = search needs
 
 returns : tie.Need-returns
 returns c =
-    meets-row _ _ _ _ _ (c .before .before .before .before .before .before .before .before .before .before .before .before .before .before .before .before .before .before .pre .0) (c .before .before .before .before .before .before .before .before .before .before .before .before .before .before .before .before .before .before .pre .1) _
+    meets-row _ _ _ _ _ (c .before .before .before .before .before .before .before .before .before .before .before .before .before .before .before .before .before .before .pre .0) (c .before .before .before .before .before .before .before .before .before .before .before .before .before .before .before .before .before .before .pre .1) _ refl _
     (passed-told _ _ _ _ _ _
     (past-told _ _ _ _ _ (c .before .before .before .before .before .before .before .before .before .before .before .before .before .before .before .looked-up .ensures ∙ ap (λ (p : ℕ). lookedUp (c .before .before .before .before .before .before .before .before .before .before .before .before .before .before .before .before .before .before .args .interrupted) p) (c .before .before .before .before .before .before .before .before .before .before .before .before .before .before .before .before .before .before .pre .0)) (c .before .before .before .before .before .before .before .caller-by-state .result)
     (c .before .before .before .before .before .before .before .caller-by-state .last .1 .1 .1 .1 .1 .1 .0)
@@ -80,7 +80,7 @@ returns c =
 
 returns-2 : tie.Need-returns-2
 returns-2 c =
-    meets-refused _ _ _ _ _ (c .before .before .before .before .before .before .before .before .before .before .before .before .before .before .before .before .pre .0) (c .before .before .before .before .before .before .before .before .before .before .before .before .before .before .before .before .pre .1) _
+    meets-refused _ _ _ _ _ (c .before .before .before .before .before .before .before .before .before .before .before .before .before .before .before .before .pre .0) (c .before .before .before .before .before .before .before .before .before .before .before .before .before .before .before .before .pre .1) _ _
     (passed-told _ _ _ _ _ (c .before .before .before .before .before .caller-by-state .last .1 .1 .1 .1 .1 .1 .0)
     (past-told _ _ _ _ _ (c .before .before .before .before .before .before .before .before .before .before .before .before .before .looked-up .ensures ∙ ap (λ (p : ℕ). lookedUp (c .before .before .before .before .before .before .before .before .before .before .before .before .before .before .before .before .args .interrupted) p) (c .before .before .before .before .before .before .before .before .before .before .before .before .before .before .before .before .pre .0)) (c .before .before .before .before .before .caller-by-state .result)
     (c .before .before .before .before .before .caller-by-state .last .1 .1 .1 .1 .1 .1 .0)
@@ -91,7 +91,7 @@ returns-2 c =
 
 returns-3 : tie.Need-returns-3
 returns-3 c =
-    meets-refused _ _ _ _ _ (c .before .before .before .before .before .before .before .before .pre .0) (c .before .before .before .before .before .before .before .before .pre .1) _
+    meets-refused _ _ _ _ _ (c .before .before .before .before .before .before .before .before .pre .0) (c .before .before .before .before .before .before .before .before .pre .1) _ _
     (sym
     (past-told _ _ _ _ _ (c .before .before .before .before .before .looked-up .ensures ∙ ap (λ (p : ℕ). lookedUp (c .before .before .before .before .before .before .before .before .args .interrupted) p) (c .before .before .before .before .before .before .before .before .pre .0)) (status.Refused _) (c .before .before .before .before .before .before .before .before .args .file .now)
     (refused-through _ _ _ _ _ _ (c .before .before .before .run-through .ensures) _ _ _ (c .before .before .before .before .before .before .before .before .pre .3) (c .before .before .before .before .offset-from .ensures) _ (c .before .status .given .1))

@@ -13,7 +13,8 @@ enum-known-row-2 : tie.Need-enum-known-row-2
 enum-known-row-2 c = search needs
 
 returns : tie.Need-returns
-returns c = search needs
+returns c =
+    rw (c .enum-told .given .1)
 
 returns-2 : tie.Need-returns-2
 returns-2 c =

@@ -49,7 +49,7 @@ enum-told c =
 -- a turn that goes on has passed the frame
 below : (c : tie.After-enum-told Inv-loop μ-loop) → c .before .before .before .before .before .loop .number < 1024
 below c =
-    searching-below _ _ _ (c .before .before .before .meet .last .1 .1 .1 .1 .1 .1 .1 .0) (c .before .before .before .meet .result) (c .before .before .before .meet .ensures) _ (c .before .before .before .before .before .before .before .sp-column .ensures .0) _
+    searching-below _ _ _ (c .before .before .before .meet .last .1 .1 .1 .1 .1 .1 .1 .1 .0) (c .before .before .before .meet .result) (c .before .before .before .meet .ensures) _ (c .before .before .before .before .before .before .before .sp-column .ensures .0) _
     (c .before .before .search-turn .ensures) (c .enum-told .given .1)
 
 add-number : tie.Need-add-number Inv-loop μ-loop
@@ -62,7 +62,7 @@ loop-less c =
 
 loop-again : tie.Need-loop-again Inv-loop μ-loop
 loop-again c =
-    searching-on _ _ _ (c .before .before .before .meet .last .1 .1 .1 .1 .1 .1 .1 .0) (c .before .before .before .meet .result) (c .before .before .before .meet .ensures) _ (c .before .before .before .before .before .before .before .sp-column .ensures .0) _
+    searching-on _ _ _ (c .before .before .before .meet .last .1 .1 .1 .1 .1 .1 .1 .1 .0) (c .before .before .before .meet .result) (c .before .before .before .meet .ensures) _ (c .before .before .before .before .before .before .before .sp-column .ensures .0) _
     (c .before .before .search-turn .ensures) _ (c .before .before .before .before .before .loop .inv) (c .enum-told .given .1)
 
 enum-known-answer : tie.Need-enum-known-answer Inv-loop μ-loop
@@ -71,7 +71,7 @@ enum-known-answer c =
 
 returns : tie.Need-returns Inv-loop μ-loop
 returns c =
-    searching-stop _ _ _ (c .before .before .before .before .meet .last .1 .1 .1 .1 .1 .1 .1 .0) (c .before .before .before .before .meet .result) (c .before .before .before .before .meet .ensures) _ (c .before .before .before .before .before .before .before .before .sp-column .ensures .0) _
+    searching-stop _ _ _ (c .before .before .before .before .meet .last .1 .1 .1 .1 .1 .1 .1 .1 .0) (c .before .before .before .before .meet .result) (c .before .before .before .before .meet .ensures) _ (c .before .before .before .before .before .before .before .before .sp-column .ensures .0) _
     (c .before .before .before .search-turn .ensures) _ (c .before .before .before .before .before .before .loop .inv) _ (c .before .answer .given .1)
 
 pub search-spec : {M : Type 1} → statement M

@@ -25,7 +25,7 @@ returns c =
 
 returns-2 : tie.Need-returns-2
 returns-2 c =
-    turn-rowless _ _ _ (c .enum-told2 .given .1)
+    turn-rowless _ _ _ _ (c .enum-told2 .given .1)
 
 returns-3 : tie.Need-returns-3
 returns-3 c =

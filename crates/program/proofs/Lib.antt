@@ -1,6 +1,7 @@
 -- The laws that callers cite, each file named after what it is about.
 pub mod Form
 pub mod Decoding
+pub mod Near
 pub mod Following
 pub mod Offsets
 pub mod Loop

@@ -76,6 +76,7 @@ pub record Sofar (m : Memory) (a : Arch) (program limit off : ℕ) (st : State) 
   pub deep : depth ≤ maxRemember
   pub room : length states ≡ maxRemember
   pub within : at ≤ off
+  pub past : program ≤ pos
   pub same : run m a program limit off ≡ runFrom left m a limit off pos (standAt st states depth at)
 
 module _ (m : Memory) (a : Arch) (program limit off : ℕ) where
@@ -93,6 +94,7 @@ module _ (m : Memory) (a : Arch) (program limit off : ℕ) where
         deep = omega arith;
         room = room;
         within = omega arith;
+        past = omega arith;
         same = started some ∙ ap (λ (s : State). runFrom (limit - program) m a limit off program (standAt s states 0 0)) (sym e);
       }
 
@@ -157,6 +159,7 @@ module _ (m : Memory) (a : Arch) (program limit off : ℕ) where
             deep = deep;
             room = room;
             within = within;
+            past = omega (arith, s .past, decode-moves m limit pos (record { op = op; next = next }) (sym e) .1);
             same = s .same ∙ opened .same ∙ ap (λ (x : Turn). turned x (λ s′. runFrom (opened .after) m a limit off next s′)) t;
           }
 

@@ -89,22 +89,23 @@ fn form_named(code: u8) -> Form
 pub fn form_of(code: u8) -> Form
     ensures { λ r. ⌜ r ≡ Operation.formOf code ⌝ }
 {
+    let n = code as u32;
     if code == 0 {
         return Form::Whole(Op::End);
     }
     if code < 0x40 {
-        return Form::Whole(Op::Advance(code as u32));
+        return Form::Whole(Op::Advance(n));
     }
     if code < 0x80 {
-        return Form::Whole(Op::Set(Rule::Units((code - 0x40) as u32)));
+        return Form::Whole(Op::Set(Rule::Units(n - 0x40)));
     }
     if code < 0xc0 {
-        return Form::WithNumber(One::Save((code - 0x80) as u32));
+        return Form::WithNumber(One::Save(n - 0x80));
     }
     if code < 0xe0 {
         return form_named(code);
     }
-    Form::Whole(Op::Set(Rule::Restore((code - 0xe0) as u32)))
+    Form::Whole(Op::Set(Rule::Restore(n - 0xe0)))
 }
 
 // The operation that a number completes.

@@ -13,16 +13,21 @@ ghost use Rattle.state.specs.State.{stateOf, entry};
 ghost use Rattle.state.specs.Save as Save;
 ghost use Rattle.state.specs.Restore as Restore;
 ghost use Rattle.state.specs.Answers.{changed, nextIn, told};
+ghost use Rattle.program.specs.Operation as Operation;
+ghost use Rattle.program.specs.Near.{Near};
 ghost use Rattle.program.specs.Rule as Rules;
 ghost use Rattle.program.specs.Run as Run;
 ghost use Rattle.program.specs.Public as Public;
-ghost use Rattle.program.specs.Answers.{followed, stepped, Room, finished, stopped, ended, through};
+ghost use Rattle.program.specs.Answers.{decoded, followed, stepped, Room, finished, stopped, ended, through};
 use arch::is_known;
 use arch::numbers;
 use decode::Decoded;
+use decode::Form;
 use decode::Op;
 use decode::Rule;
+use decode::completed;
 use decode::decode;
+use decode::form_of;
 use failure::BAD_EKO_RECORD;
 use failure::BAD_OPENING;
 use failure::REMEMBER_STACK_OVERFLOW;
@@ -429,6 +434,71 @@ fn refused(kept: State, passed: bool, n: u32) -> Through
     }
 }
 
+// The end of the bytes from the program on that surely lie in the section and below the limit; 0 where none does.
+fn near_end(section: &[u8], base: usize, program: usize, limit: usize) -> usize
+    ensures { λ r. ⌜ Near (now (section .entry)) base limit program r ⌝ }
+{
+    if program < base {
+        return 0;
+    }
+    if limit < base {
+        return 0;
+    }
+    let size = section.len();
+    if size < limit - base {
+        return base + size;
+    }
+    limit
+}
+
+// An operation that `decode` read, taken out of memory: what `operation_at` reads itself then needs none to pass through.
+fn again(d: Decoded) -> Decoded
+    ensures { λ r. ⌜ decoded r ≡ decoded d ⌝ }
+{
+    match d {
+        Decoded::Is(op, next) => Decoded::Is(op, next),
+        Decoded::Refused(n) => Decoded::Refused(n),
+    }
+}
+
+// The operation at a position below the limit. Where its bytes come before the end and its number, if it has one, is one byte,
+// they are read by index; everywhere else `decode` answers.
+fn operation_at<'a>(
+    section: &'a [u8],
+    section_base: usize,
+    stack: &'a [u8],
+    stack_base: usize,
+    pos: usize,
+    limit: usize,
+    end: usize,
+) -> Decoded
+    requires { ⌜ Near (now section) «section_base» limit pos end ⌝ }
+    ensures { λ r. ⌜
+        decoded r ≡
+        Operation.decode (lent (now (section .entry)) «section_base» (now (stack .entry)) «stack_base» .regions) limit pos
+        ⌝ }
+{
+    if end <= pos {
+        return again(decode(section, section_base, stack, stack_base, pos, limit));
+    }
+    let code = section[pos - section_base];
+    let next = pos + 1;
+    match form_of(code) {
+        Form::Whole(op) => Decoded::Is(op, next),
+        Form::WithNumber(o) => {
+            if end <= next {
+                return again(decode(section, section_base, stack, stack_base, pos, limit));
+            }
+            let b = section[next - section_base];
+            if 0x80 <= b {
+                return again(decode(section, section_base, stack, stack_base, pos, limit));
+            }
+            Decoded::Is(completed(o, b as u32), next + 1)
+        }
+        _ => again(decode(section, section_base, stack, stack_base, pos, limit)),
+    }
+}
+
 // Two runs of the program at an address in one: the state at an offset, and the end at the same or a later one. Program 0 is
 // the entry state everywhere.
 fn run_both<'a>(
@@ -464,9 +534,10 @@ fn run_both<'a>(
     let mut remembered = [kept; 4];
     let mut depth: usize = 0;
     let mut at: usize = 0;
+    let end = near_end(section, section_base, program, limit);
     let mut pos = program;
     'ops: loop {
-        match decode(section, section_base, stack, stack_base, pos, limit) {
+        match operation_at(section, section_base, stack, stack_base, pos, limit, end) {
             Decoded::Is(op, next) => {
                 pos = next;
                 let acted = act(

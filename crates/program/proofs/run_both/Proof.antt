@@ -15,37 +15,38 @@ use Rattle.program.specs.Run.{maxRemember}
 use Rattle.program.specs.Answers.{decoded}
 use denote.Ref.{now}
 use Rattle.program.proofs.Loop.{kept-length, Both, both-0, both-begin, both-undecoded, both-less, both-ends, both-ends-past, both-refused, both-on, both-pass, both-passed, stepped-found, room-found, step-remember, step-recall}
+use Rattle.program.proofs.Near.{near-later}
 use Rattle.program.proofs.run_both.Statement.{statement}
 use Rattle.program.proofs.run_both.Tie as tie
 
 abbrev Inv-ops : tie.InvT-ops
-Inv-ops section section-base stack stack-base arch program limit off last kept₀ passed₀ fp₀ units₀ count₀ regs₀ slots₀ remembered₀ depth₀ at₀ pos₀ kept passed fp units count regs slots remembered depth at pos =
+Inv-ops section section-base stack stack-base arch program limit off last kept₀ passed₀ fp₀ units₀ count₀ regs₀ slots₀ remembered₀ depth₀ at₀ end₀ pos₀ kept passed fp units count regs slots remembered depth at pos =
     Both (lent section section-base stack stack-base .regions) (numbers arch) program limit off last passed kept (stateOf fp units count regs slots) remembered depth at pos
 
 abbrev μ-ops : tie.MeasureT-ops
-μ-ops section section-base stack stack-base arch program limit off last kept₀ passed₀ fp₀ units₀ count₀ regs₀ slots₀ remembered₀ depth₀ at₀ pos₀ kept passed fp units count regs slots remembered depth at pos = limit - pos
+μ-ops section section-base stack stack-base arch program limit off last kept₀ passed₀ fp₀ units₀ count₀ regs₀ slots₀ remembered₀ depth₀ at₀ end₀ pos₀ kept passed fp units count regs slots remembered depth at pos = limit - pos
 
 -- what was read is the operation at the position
 read :
     (c : tie.After-act Inv-ops μ-ops) →
     let k = c .before .before .before in
-    let x = k .before .before .before .before .before .before .before .before .before .before .before .args in
+    let x = k .before .before .before .before .before .before .before .before .before .before .before .before .args in
     Answer (record { op = k .before .op .given .0 .0; next = k .before .op .given .0 .1 .0 }) ≡
     decode (lent (now (x .section)) (x .section-base) (now (x .stack)) (x .stack-base) .regions) (x .limit)
     (k .before .before .before .before .ops .pos)
 read c =
     let k = c .before .before .before in
-    sym (ap decoded (k .before .op .given .1)) ∙ k .before .before .before .decode .ensures
+    sym (ap decoded (k .before .op .given .1)) ∙ k .before .before .before .operation-at .ensures
 
 -- the loop comes nearer to the limit
 less :
     (c : tie.After-act Inv-ops μ-ops) →
     let k = c .before .before .before in
-    let limit = k .before .before .before .before .before .before .before .before .before .before .before .args .limit in
+    let limit = k .before .before .before .before .before .before .before .before .before .before .before .before .args .limit in
     limit - k .before .op .given .0 .1 .0 < limit - k .before .before .before .before .ops .pos
 less c =
     let at = c .before .before .before .before .before .before .before in
-    both-less _ _ _ _ _ _ (at .before .before .before .before .before .before .before .pre) _ _ _ _ _ _ _ (at .ops .inv) _ _ (read c)
+    both-less _ _ _ _ _ _ (at .before .before .before .before .before .before .before .before .pre) _ _ _ _ _ _ _ (at .ops .inv) _ _ (read c)
 
 -- there is room for one more state, and there is one to recall
 more : (c : tie.After-enum-told2 Inv-ops μ-ops) → c .before .before .before .before .before .before .before .before .before .ops .depth ≡ maxRemember → ⊥
@@ -67,11 +68,16 @@ returns c =
 
 ops-holds : tie.Need-ops-holds Inv-ops μ-ops
 ops-holds c =
-    let e = c .before .before .before in
-    both-begin _ _ _ _ _ _ (e .before .before .before .pre) _ _ (e .at-entry .ensures) refl (c .before .before .if1 .left)
+    let e = c .before .before .before .before in
+    both-begin _ _ _ _ _ _ (e .before .before .before .pre) _ _ (e .at-entry .ensures) refl (c .before .before .before .if1 .left)
 
-decode-requires : tie.Need-decode-requires Inv-ops μ-ops
-decode-requires c κs = search needs
+near-end-requires : tie.Need-near-end-requires Inv-ops μ-ops
+near-end-requires c κs = search needs
+
+operation-at-requires : tie.Need-operation-at-requires Inv-ops μ-ops
+operation-at-requires c κs =
+    let section = now (c .before .before .before .before .before .before .before .before .args .section) in
+    near-later section _ _ _ _ (c .before .near-end .ensures) _ (c .ops .inv .second .past)
 
 enum-known-op : tie.Need-enum-known-op Inv-ops μ-ops
 enum-known-op c = search needs
@@ -89,7 +95,7 @@ ops-again : tie.Need-ops-again Inv-ops μ-ops
 ops-again c =
     let u = c .before .before .before .before .before in
     let at = u .before .before .before .before .before .before .before in
-    both-pass _ _ _ _ _ _ (at .before .before .before .before .before .before .before .pre) _ _ _ _ _ _ _ (at .ops .inv) _ _ (read u) _ _ _ _
+    both-pass _ _ _ _ _ _ (at .before .before .before .before .before .before .before .before .pre) _ _ _ _ _ _ _ (at .ops .inv) _ _ (read u) _ _ _ _
     (stepped-found _ _ _ _ _ _ (c .before .before .before .step .given .1) (u .act .ensures .0 _ (kept-length _ _)))
     (at .ops .inv .second .deep) (at .ops .inv .second .room) (not-true _ (c .if3 .taken)) (c .before .if2 .taken)
 
@@ -100,7 +106,7 @@ ops-again-2 : tie.Need-ops-again-2 Inv-ops μ-ops
 ops-again-2 c =
     let u = c .before .before .before .before .before in
     let at = u .before .before .before .before .before .before .before in
-    both-on _ _ _ _ _ _ (at .before .before .before .before .before .before .before .pre) _ _ _ _ _ _ _ (at .ops .inv) _ _ (read u) _ _ _ _
+    both-on _ _ _ _ _ _ (at .before .before .before .before .before .before .before .before .pre) _ _ _ _ _ _ _ (at .ops .inv) _ _ (read u) _ _ _ _
     (stepped-found _ _ _ _ _ _ (c .before .before .before .step .given .1) (u .act .ensures .0 _ (kept-length _ _)))
     (at .ops .inv .second .deep) (at .ops .inv .second .room) (λ h. not-false _ (c .if3 .left))
 
@@ -111,7 +117,7 @@ ops-again-3 : tie.Need-ops-again-3 Inv-ops μ-ops
 ops-again-3 c =
     let u = c .before .before .before .before in
     let at = u .before .before .before .before .before .before .before in
-    both-on _ _ _ _ _ _ (at .before .before .before .before .before .before .before .pre) _ _ _ _ _ _ _ (at .ops .inv) _ _ (read u) _ _ _ _
+    both-on _ _ _ _ _ _ (at .before .before .before .before .before .before .before .before .pre) _ _ _ _ _ _ _ (at .ops .inv) _ _ (read u) _ _ _ _
     (stepped-found _ _ _ _ _ _ (c .before .before .step .given .1) (u .act .ensures .0 _ (kept-length _ _)))
     (at .ops .inv .second .deep) (at .ops .inv .second .room) (λ h. absurd (omega (arith, c .if2 .left)))
 
@@ -125,7 +131,7 @@ ops-again-4 : tie.Need-ops-again-4 Inv-ops μ-ops
 ops-again-4 c =
     let u = c .before .before in
     let at = u .before .before .before .before .before .before .before in
-    both-on _ _ _ _ _ _ (at .before .before .before .before .before .before .before .pre) _ _ _ _ _ _ _ (at .ops .inv) _ _ (read u) _ _ _ _
+    both-on _ _ _ _ _ _ (at .before .before .before .before .before .before .before .before .pre) _ _ _ _ _ _ _ (at .ops .inv) _ _ (read u) _ _ _ _
     (stepped-found _ _ _ _ _ _ (c .enum-told .given .1) (u .act .ensures .0 _ (kept-length _ _)))
     (at .ops .inv .second .deep) (at .ops .inv .second .room) (both-passed _ _ _ _ _ _ _ _ _ _ _ _ _ (at .ops .inv))
 
@@ -149,7 +155,7 @@ ops-again-5 c =
     let u = c .before .before in
     let at = u .before .before .before .before .before .before .before in
     let room : at .ops .depth < maxRemember = omega (arith, at .ops .inv .second .deep, more c) in
-    both-on _ _ _ _ _ _ (at .before .before .before .before .before .before .before .pre) _ _ _ _ _ _ _ (at .ops .inv) _ _ (read u) _ _ _ _
+    both-on _ _ _ _ _ _ (at .before .before .before .before .before .before .before .before .pre) _ _ _ _ _ _ _ (at .ops .inv) _ _ (read u) _ _ _ _
     (stepped-found _ _ _ _ _ _ (c .enum-told2 .given .1) (u .act .ensures .0 _ (kept-length _ _)) ∙ step-remember _ _ _ _ room (at .ops .inv .second .room))
     (omega (arith, at .ops .inv .second .deep, more c)) (simp length-set (at .ops .inv .second .room)) (both-passed _ _ _ _ _ _ _ _ _ _ _ _ _ (at .ops .inv))
 
@@ -173,7 +179,7 @@ ops-again-6 c =
     let e = c .before .before .before in
     let u = e .before .before in
     let at = u .before .before .before .before .before .before .before in
-    both-on _ _ _ _ _ _ (at .before .before .before .before .before .before .before .pre) _ _ _ _ _ _ _ (at .ops .inv) _ _ (read u) _ _ _ _
+    both-on _ _ _ _ _ _ (at .before .before .before .before .before .before .before .before .pre) _ _ _ _ _ _ _ (at .ops .inv) _ _ (read u) _ _ _ _
     (stepped-found _ _ _ _ _ _ (e .enum-told3 .given .1) (u .act .ensures .0 _ (kept-length _ _)) ∙ step-recall _ _ _ _ (some e))
     (omega (arith, at .ops .inv .second .deep)) (at .ops .inv .second .room) (both-passed _ _ _ _ _ _ _ _ _ _ _ _ _ (at .ops .inv))
 
@@ -203,7 +209,7 @@ returns-2 c =
     let u = c .before .before .before .before .before in
     let at = u .before .before .before .before .before .before .before in
     c .done2 .ensures ∙
-    both-ends-past _ _ _ _ _ _ (at .before .before .before .before .before .before .before .pre) _ _ _ _ _ _ _ (at .ops .inv) _ _ (read u) _
+    both-ends-past _ _ _ _ _ _ (at .before .before .before .before .before .before .before .before .pre) _ _ _ _ _ _ _ (at .ops .inv) _ _ (read u) _
     (stepped-found _ _ _ _ _ _ (c .before .before .before .step2 .given .1) (u .act .ensures .0 _ (kept-length _ _))) (c .before .if4 .taken)
 
 returns-3 : tie.Need-returns-3 Inv-ops μ-ops
@@ -211,7 +217,7 @@ returns-3 c =
     let u = c .before .before .before .before .before in
     let at = u .before .before .before .before .before .before .before in
     c .done3 .ensures ∙
-    both-ends _ _ _ _ _ _ (at .before .before .before .before .before .before .before .pre) _ _ _ _ _ _ _ (at .ops .inv) _ _ (read u) _
+    both-ends _ _ _ _ _ _ (at .before .before .before .before .before .before .before .before .pre) _ _ _ _ _ _ _ (at .ops .inv) _ _ (read u) _
     (stepped-found _ _ _ _ _ _ (c .before .before .before .step2 .given .1) (u .act .ensures .0 _ (kept-length _ _))) (c .before .if4 .left)
 
 returns-4 : tie.Need-returns-4 Inv-ops μ-ops
@@ -219,7 +225,7 @@ returns-4 c =
     let u = c .before .before .before .before in
     let at = u .before .before .before .before .before .before .before in
     c .refused .ensures ∙
-    both-refused _ _ _ _ _ _ (at .before .before .before .before .before .before .before .pre) _ _ _ _ _ _ _ (at .ops .inv) _ _ (read u) _
+    both-refused _ _ _ _ _ _ (at .before .before .before .before .before .before .before .before .pre) _ _ _ _ _ _ _ (at .ops .inv) _ _ (read u) _
     (stepped-found _ _ _ _ _ _ (c .before .before .step3 .given .1) (u .act .ensures .0 _ (kept-length _ _)))
 
 returns-5 : tie.Need-returns-5 Inv-ops μ-ops
@@ -227,7 +233,7 @@ returns-5 c =
     let d = c .before .before .before .before in
     let at = d .before in
     c .refused2 .ensures ∙
-    both-undecoded _ _ _ _ _ _ (at .before .before .before .before .before .before .before .pre) _ _ _ _ _ _ _ (at .ops .inv) _ (sym (ap decoded (c .before .before .n .given .1)) ∙ d .decode .ensures)
+    both-undecoded _ _ _ _ _ _ (at .before .before .before .before .before .before .before .before .pre) _ _ _ _ _ _ _ (at .ops .inv) _ (sym (ap decoded (c .before .before .n .given .1)) ∙ d .operation-at .ensures)
 
 pub run-both-spec : {M : Type 1} → statement M
 run-both-spec =
@@ -238,8 +244,9 @@ run-both-spec =
     at-entry-requires
     done-requires
     returns
+    near-end-requires
     ops-holds
-    decode-requires
+    operation-at-requires
     enum-known-op
     act-requires
     enum-known-step

@@ -14,14 +14,14 @@ returns c = sym (ap formOf (c .if1 .taken))
 returns-2 : tie.Need-returns-2
 returns-2 c = form-advance _ (c .before .if1 .left) (c .if2 .taken)
 
-cast-t7 : tie.Need-cast-t7
-cast-t7 c = search needs
+sub-t6 : tie.Need-sub-t6
+sub-t6 c = search needs
 
 returns-3 : tie.Need-returns-3
 returns-3 c = form-units _ (c .before .before .if1 .left) (c .before .if2 .left) (c .if3 .taken)
 
-cast-t11 : tie.Need-cast-t11
-cast-t11 c = search needs
+sub-t9 : tie.Need-sub-t9
+sub-t9 c = search needs
 
 returns-4 : tie.Need-returns-4
 returns-4 c = form-save _ (c .before .before .before .if1 .left) (c .before .if3 .left) (c .if4 .taken)
@@ -32,8 +32,8 @@ form-named-requires c κs = search needs
 returns-5 : tie.Need-returns-5
 returns-5 c = search needs
 
-cast-t14 : tie.Need-cast-t14
-cast-t14 c = search needs
+sub-t11 : tie.Need-sub-t11
+sub-t11 c = search needs
 
 returns-6 : tie.Need-returns-6
 returns-6 c = form-restore _ (omega arith) (c .if5 .left)
@@ -44,11 +44,11 @@ form-of-spec =
     (tie.spec
     returns
     returns-2
-    cast-t7
+    sub-t6
     returns-3
-    cast-t11
+    sub-t9
     returns-4
     form-named-requires
     returns-5
-    cast-t14
+    sub-t11
     returns-6)

@@ -7,7 +7,7 @@ use lib.Dec.{lit<}
 use lib.ListN.{length, getD}
 use Rattle.failure.specs.Outcome.{Refused, Answer}
 use Rattle.failure.specs.Failure.{UnknownRegister}
-use Rattle.arch.specs.Arch.{Arch, aarch64, x86-64, numbers}
+use Rattle.arch.specs.Arch.{Arch, numbers}
 use Rattle.arch.specs.File.{columns, columnOf}
 use Rattle.arch.specs.Answers.{columned}
 use Rattle.arch.specs.declared.Column.{Column}

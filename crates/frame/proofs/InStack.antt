@@ -1,6 +1,6 @@
 -- Laws of `Near`, `slotIn` and `deepest`. Assumes nothing.
 use mathlib.Core.Path.{_≡_, refl, sym, _∙_, ap, subst}
-use mathlib.Core.Bool.{Bool, true, false, not, and-false}
+use mathlib.Core.Bool.{Bool, true, false, and-false}
 use mathlib.Core.List.{List}
 use mathlib.Core.Logic.{⊎-elim, _⊎_, inl, inr}
 use Prim.Native.Nat.{ℕ, _+_, _-_, _*_, _^_, _≤_, _<_}

@@ -1,14 +1,13 @@
 -- Laws of operations that are read in the section by index. Assumes nothing.
-use mathlib.Core.Path.{_≡_, refl, sym, _∙_, ap}
+use mathlib.Core.Path.{_≡_, sym, _∙_, ap}
 use mathlib.Core.List.{List, _∷_}
-use Prim.Native.Nat.{ℕ, suc, _+_, _-_, _*_, _≤_, _<_}
-use native.Mathlib.Numerals.{add-one}
+use Prim.Native.Nat.{ℕ, _+_, _-_, _≤_, _<_}
 use native.Mathlib.Omega.{arith}
 use lib.ListN.{length, getD, take, drop}
 use lib.Seq.{drop-cons}
 use Rattle.failure.specs.Outcome.{Answer}
 use Rattle.mem.specs.Memory.{Memory}
-use Rattle.mem.specs.Place.{holds, bytesAt}
+use Rattle.mem.specs.Place.{bytesAt}
 use Rattle.mem.specs.Word.{littleEndian, load}
 use Rattle.mem.proofs.Place.{holds-when}
 use Rattle.leb.specs.declared.Byte.the-variants as byte

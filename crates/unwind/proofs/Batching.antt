@@ -1,6 +1,6 @@
 -- Laws of a walk over many frames at once. Assumes nothing.
 use mathlib.Core.Path.{_≡_, refl, sym, _∙_, ap}
-use mathlib.Core.Bool.{Bool, true, false, _&&_}
+use mathlib.Core.Bool.{true, false, _&&_}
 use mathlib.Core.List.{List}
 use Prim.Native.Nat.{ℕ, suc, _+_, _-_, _≤_, _<_}
 use native.Mathlib.Omega.{arith}
@@ -11,9 +11,9 @@ use Rattle.mem.specs.Memory.{Memory, Lent}
 use Rattle.mem.specs.Opening.{opens}
 use Rattle.arch.specs.Arch.{numbers, isKnown}
 use Rattle.arch.specs.File.{pc}
-use Rattle.model.specs.FrameStep.{Frame, Step, callerOf, frameStep}
+use Rattle.model.specs.FrameStep.{Frame, Step, callerOf}
 use Rattle.unwind.specs.Turns.{seen, meeting}
-use Rattle.unwind.specs.Batches.{Passed, End, Past, passedAs, given, givenAs, noFrames, Walking, More, Over, Broken, oneMore, walkPast, walkFrom, walking, walkedBy}
+use Rattle.unwind.specs.Batches.{Passed, End, Past, passedAs, given, givenAs, noFrames, More, Over, Broken, oneMore, walkPast, walkFrom, walking}
 use Rattle.unwind.specs.declared.Frames.{Frames}
 use Rattle.unwind.specs.declared.Given.{Given}
 use Rattle.unwind.specs.declared.Given.the-variants as code

@@ -1,6 +1,5 @@
 -- `frame::ra_column` meets its contract. Assumes nothing.
 use mathlib.Core.Path.{ap}
-use Prim.Native.Nat.{ℕ}
 use borrow.Author.Needs.{needs}
 use Rattle.arch.specs.declared.Arch2.{Arch2}
 use Rattle.frame.proofs.Ra.{ra-known}

@@ -1,5 +1,5 @@
 -- `unwind::step_from` meets its contract. Assumes nothing.
-use mathlib.Core.Path.{sym, _∙_, ap}
+use mathlib.Core.Path.{_∙_, ap}
 use native.Mathlib.Omega.{arith}
 use Rattle.unwind.specs.Answers.{stepped}
 use Rattle.unwind.proofs.Meeting.{met-below, step-met, stays, stays-refused}

@@ -712,6 +712,7 @@ fn step_from<'a>(
             interrupted: false,
             regs: Regs { r: file },
         },
+        // no row is asked for, so none is met
         Met::Row(_, _, _) => stayed(Walked::End, number, interrupted, regs),
         Met::Refused(n) => stayed(Walked::Refused(n), number, interrupted, regs),
     }
@@ -782,6 +783,7 @@ fn pass<'a>(
     ) {
         Met::End => Given::End,
         Met::Rowless(record) => Given::Frame(record.start),
+        // no row is asked for, so none is met
         Met::Row(_, _, _) => Given::End,
         Met::Refused(n) => Given::Refused(n),
     }

@@ -27,6 +27,7 @@ const FP: usize = 6;
 const START: usize = 0x5000_0000;
 
 fn main() {
+    timing::head();
     [10, 1_000, 100_000].into_iter().for_each(lookup);
     [8, 64, 512].into_iter().for_each(run);
     apply();

@@ -10,6 +10,11 @@ use crate::timing::measure_over;
 use crate::{ANSWERED, NONE, PC_COLUMN, Regs, Unwinding, X86_64, address, file, raw};
 
 const EXCEPTION: usize = 99;
+
+/// How many stacks come again and again in a case's second timing, with so many frames in all at most.
+const AGAIN: usize = 8;
+const AGAIN_FRAMES: usize = 4_096;
+
 const MOST_FRAMES: usize = 1024;
 
 /// A frame's number, pc and sp.
@@ -26,18 +31,18 @@ struct Case {
 pub fn all(version: u8, frames: usize) {
     let (section, first) = section(version);
     let stacks = stacks(frames, first);
-    let inputs = stacks.len();
+    let (inputs, again) = (stacks.len(), AGAIN.min(AGAIN_FRAMES / frames));
     let files = stacks.iter().map(|(_, regs)| file(regs)).collect();
     let case = Case { section, stacks, files };
     let name = |what| format!("{what} {frames} frames, version {version}");
-    measure_over(inputs, &name("walk"), |i| case.rust_walk(i), |i| case.walk(i), |rust, ours| rust == ours);
-    measure_over(inputs, &name("raise"), |i| case.rust_raise(i), |i| case.raise(i), |rust, ours| {
+    measure_over(inputs, again, &name("walk"), |i| case.rust_walk(i), |i| case.walk(i), |rust, ours| rust == ours);
+    measure_over(inputs, again, &name("raise"), |i| case.rust_raise(i), |i| case.raise(i), |rust, ours| {
         (ours.status, ours.reason, ours.number, ours.sp) == (ANSWERED, URC_HANDLER_FOUND, rust.0, rust.1)
     });
     let chosen: Vec<_> = (0..inputs).map(|i| case.rust_raise(i)).collect();
     let unwindings: Vec<_> = (0..inputs).map(|i| case.raise(i).unwinding).collect();
     let rust = |i: usize| case.rust_resume(i, chosen[i]);
-    measure_over(inputs, &name("resume"), rust, |i| case.resume(i, unwindings[i]), |rust, ours| rust == ours);
+    measure_over(inputs, again, &name("resume"), rust, |i| case.resume(i, unwindings[i]), |rust, ours| rust == ours);
 }
 
 fn place(number: usize, regs: &arch::Regs) -> Place {

@@ -3,8 +3,12 @@ use std::hint::black_box;
 use std::time::Instant;
 
 /// How many inputs a case has. They are asked in turn, and are too many for a processor to learn the branches of each: a failed
-/// job is unwound once. (Of 4,096 inputs some processors do learn them.)
+/// job is unwound once.
 pub const INPUTS: usize = 1 << 16;
+
+/// How many of them a case is timed with once more, again and again, for a host that asks the same ever anew. A processor may
+/// learn these.
+const AGAIN: usize = 1 << 12;
 
 /// How often each is timed; the least time counts.
 const ROUNDS: usize = 400;
@@ -12,21 +16,28 @@ const ROUNDS: usize = 400;
 /// How long a round takes, about.
 const NANOSECONDS: f64 = 5e5;
 
-/// Checks that both answer every input alike, then prints the name, the nanoseconds of a call of the Rust and of ours, and the
-/// first divided by the second. Each is called with the number of an input. Does nothing where the program was given a word that
-/// the name does not begin with.
+/// What the columns of a line are.
+pub fn head() {
+    println!("{:<46} {:^34}   {:^34}", "nanoseconds of a call", "many inputs", "few, again and again");
+    println!("{:<46} {:>12}{:>14}{:>8}   {:>12}{:>14}{:>8}", "", "the Rust", "ours", "ratio", "the Rust", "ours", "ratio");
+}
+
+/// Checks that both answer every input alike, then prints the name and, for all inputs and for few of them again and again, the
+/// nanoseconds of a call of the Rust and of ours, and the first divided by the second. Each is called with the number of an input.
+/// Does nothing where the program was given a word that the name does not begin with.
 pub fn measure<R, O>(
     name: &str,
     rust: impl FnMut(usize) -> R,
     ours: impl FnMut(usize) -> O,
     same: impl Fn(&R, &O) -> bool,
 ) {
-    measure_over(INPUTS, name, rust, ours, same);
+    measure_over(INPUTS, AGAIN, name, rust, ours, same);
 }
 
-/// The same over so many inputs; at least one call is timed at once.
+/// The same over so many inputs, and so few of them; at least one call is timed at once.
 pub fn measure_over<R, O>(
     inputs: usize,
+    again: usize,
     name: &str,
     mut rust: impl FnMut(usize) -> R,
     mut ours: impl FnMut(usize) -> O,
@@ -38,13 +49,20 @@ pub fn measure_over<R, O>(
     for i in 0..inputs {
         assert!(same(&rust(i), &ours(i)), "{name}: the answers to input {i} differ");
     }
-    let calls = 1.max((NANOSECONDS / round(&mut ours, 0, inputs, inputs)) as usize);
-    let (mut theirs, mut own) = (f64::MAX, f64::MAX);
-    for first in (0..ROUNDS).map(|number| number * calls) {
-        theirs = theirs.min(round(&mut rust, first, calls, inputs));
-        own = own.min(round(&mut ours, first, calls, inputs));
-    }
-    println!("{name:<46} {theirs:9.1} ns {own:9.1} ns {:6.2}x", theirs / own);
+    let columns = [inputs, again].map(|inputs| {
+        let (theirs, own) = least(&mut rust, &mut ours, inputs);
+        format!("{theirs:9.1} ns {own:10.1} ns {:6.2}x", theirs / own)
+    });
+    println!("{name:<46} {}", columns.join("   "));
+}
+
+/// The least nanoseconds of a call of each, over so many inputs.
+fn least<R, O>(rust: &mut impl FnMut(usize) -> R, ours: &mut impl FnMut(usize) -> O, inputs: usize) -> (f64, f64) {
+    let calls = 1.max((NANOSECONDS / round(ours, 0, inputs, inputs)) as usize);
+    let rounds = (0..ROUNDS).map(|number| number * calls);
+    rounds.fold((f64::MAX, f64::MAX), |(theirs, own), first| {
+        (theirs.min(round(rust, first, calls, inputs)), own.min(round(ours, first, calls, inputs)))
+    })
 }
 
 /// The nanoseconds of a call, over so many from the first on.

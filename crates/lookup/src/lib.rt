@@ -3,6 +3,7 @@
 // part's first byte. `lookup_part` searches any part; `lookup_arch` and `chunk_of` take what is lent, and refuse with 28 first.
 ghost use mathlib.Core.Path.{_≡_};
 ghost use Prim.Native.Nat.{_+_, _^_, _<_, _≤_};
+ghost use Rattle.failure.specs.Choice.{if_then_else_};
 ghost use mathlib.Core.Option.{none, some};
 ghost use lib.ListN.{length};
 ghost use Rattle.failure.specs.Outcome.{Answer};
@@ -284,25 +285,35 @@ fn rec(part: &[u8], base: usize, c: Chunk, k: usize) -> Record
 
 // The search of a chunk.
 
-// The last record whose start is at most pc, if the starts rise; the first where none is. The `if` compiles to a choice, and
-// there are as many turns for every pc: no branch is guessed wrong.
+// One of two numbers: the `if` compiles to a choice, and no branch is guessed wrong.
+fn choice(first: bool, x: usize, y: usize) -> usize
+    ensures { λ r. ⌜ r ≡ (if first then x else y) ⌝ }
+{
+    if first {
+        return x;
+    }
+    y
+}
+
+// The last record whose start is at most pc, if the starts rise; the first where none is. There are as many turns for every pc. Where
+// the next turn reads is known for both halves before this one has compared.
 fn halve(part: &[u8], base: usize, c: Chunk, pc: usize) -> usize
     requires { ⌜ Inside (now part) c × (0 < c .count) ⌝ }
     ensures { λ r. ⌜ Stands c (halved (now (part .entry)) base c pc) r ⌝ }
 {
     let mut at = c.offset + HEADER;
     let mut width = c.count;
-    let mut half = c.count / 2;
+    let mut middle = at + c.count / 2 * c.stride;
     let mut turns = c.count - 1;
     while 0 < turns {
-        let middle = at + half * c.stride;
+        let half = width / 2;
+        let rest = width - half;
+        let low = at + half / 2 * c.stride;
+        let high = middle + rest / 2 * c.stride;
         let down = pc < start_at(part, base, middle);
-        if !down {
-            at = middle;
-        }
-        let twice = width + 1 - down as usize;
-        width = twice / 2;
-        half = twice / 4;
+        at = choice(down, at, middle);
+        width = choice(down, half, rest);
+        middle = choice(down, low, high);
         turns = turns / 2;
     }
     at

@@ -6,11 +6,11 @@ use Prim.Native.Nat.{ℕ, suc, _+_, _-_, _*_, _/_, _^_, _≤_, _<_}
 use native.Mathlib.Nat.{mod-eq-of-lt}
 use native.Mathlib.Numerals.{add-one}
 use native.Mathlib.Omega.{arith}
-use lib.Dec.{ltb, leb}
+use lib.Dec.{eqb, ltb, leb}
 use lib.ListN.{length, getD, take, drop}
 use lib.Seq.{drop-cons}
 use mir.Val.{boolByte}
-use borrow.Author.Tests.{ltb-true, ltb-false, leb-true}
+use borrow.Author.Tests.{eqb-true, eqb-false, ltb-true, ltb-false, leb-true, leb-false, lt-ltb, le-ltb, lt-leb}
 use Rattle.failure.specs.Choice.{if_then_else_}
 use Rattle.failure.specs.Outcome.{Outcome, Answer}
 use Rattle.mem.specs.Memory.{Memory}
@@ -24,6 +24,14 @@ use Rattle.rows.specs.Held.{wordAt, alone, Whole, Held, number, RowAt, j
 use Rattle.rows.proofs.Entries.{entry-whole, left-none, left-seen, right-none, right-seen}
 use Rattle.rows.proofs.Section.{handler-same}
 use Rattle.rows.proofs.Halving.{Left, begin, over, turn-found, turn-above, turn-below}
+
+-- below the next number is not above the number
+ltb-next : (a v : ℕ) → ltb a (v + 1 - 0) ≡ leb a v
+ltb-next a v = go (leb a v) refl
+  where
+    go : (t : Bool) → leb a v ≡ t → ltb a (v + 1 - 0) ≡ t
+    go true e = lt-ltb a (v + 1 - 0) (omega (arith, leb-true a v e))
+    go false e = le-ltb a (v + 1 - 0) (omega (arith, leb-false a v e))
 
 -- the number in some bytes is the first one and 256 times the number in the others
 pub word-more : (b : List ℕ) (k j n : ℕ) → j ≡ k + 1 → k < length b →
@@ -142,23 +150,43 @@ module _ (section : List ℕ) (base : ℕ) where
           Answer (entry-of j v) ≡ entryAt (alone section base) table j
       beside j l v h e p = entry-there j v h (near j 4 l v h (omega arith) e p)
 
-      pub left-none-in : k ≡ table - base + 4 → Answer false ≡ leftBreaks (alone section base) table i offset
+      left-none-in : k ≡ table - base + 4 → Answer false ≡ leftBreaks (alone section base) table i offset
       left-none-in e = left-none (alone section base) table i offset (omega (arith, w .above, r .place))
 
-      pub left-in : (k ≡ table - base + 4 → ⊥) → (v : ℕ) → v ≡ wordAt section (k - 12) →
+      left-in : (k ≡ table - base + 4 → ⊥) → (v : ℕ) → v ≡ wordAt section (k - 12) →
           Answer (leb offset v) ≡ leftBreaks (alone section base) table i offset
       left-in n v p =
           let some : i ≡ 0 → ⊥ = λ z. n (omega (arith, w .above, r .place)) in
           left-seen (alone section base) table i offset (entry-of (i - 1) v) some
           (beside (i - 1) (k - 12) v (omega (arith, r .inside)) (omega (arith, w .above, r .place)) p)
 
-      pub right-none-in : k + 12 ≡ table - base + 4 + 12 * count → Answer false ≡ rightBreaks (alone section base) table count i offset
+      -- the first row is compared with itself
+      pub left-beside : (t : Bool) → eqb k (table - base + 4) ≡ t → (12 ≤ k + 12 * boolByte t) × (k + 12 * boolByte t - 12 + 4 ≤ length section)
+      left-beside true e = (omega arith, omega (arith, r .place, r .inside, w .above, w .whole))
+      left-beside false e =
+          let n = eqb-false k (table - base + 4) e in (
+            omega (arith, r .place, w .above, n),
+            omega (arith, r .place, r .inside, w .above, w .whole),
+          )
+
+      pub left-said : (t : Bool) → eqb k (table - base + 4) ≡ t → (v : ℕ) → v ≡ wordAt section (k + 12 * boolByte t - 12) →
+          Answer (ltb offset (v + 1 - boolByte t)) ≡ leftBreaks (alone section base) table i offset
+      left-said true e v p =
+          let place : k + 12 * 1 - 12 ≡ k = omega arith in
+          let same : v ≡ offset = p ∙ ap (wordAt section) place ∙ sym (r .read) in
+          ap (λ (b : Bool). Answer b) (le-ltb offset (v + 1 - 1) (omega arith)) ∙ left-none-in (eqb-true k (table - base + 4) e)
+      left-said false e v p =
+          let place : k + 12 * 0 - 12 ≡ k - 12 = omega arith in
+          let there : v ≡ wordAt section (k - 12) = p ∙ ap (wordAt section) place in
+          ap (λ (b : Bool). Answer b) (ltb-next offset v) ∙ left-in (eqb-false k (table - base + 4) e) v there
+
+      right-none-in : k + 12 ≡ table - base + 4 + 12 * count → Answer false ≡ rightBreaks (alone section base) table count i offset
       right-none-in e = right-none (alone section base) table i count offset (omega (arith, w .above, r .place))
 
-      pub right-there : (k + 12 ≡ table - base + 4 + 12 * count → ⊥) → k + 12 + 4 ≤ length section
+      right-there : (k + 12 ≡ table - base + 4 + 12 * count → ⊥) → k + 12 + 4 ≤ length section
       right-there n = omega (arith, r .place, r .inside, w .above, w .whole, n)
 
-      pub right-in : (k + 12 ≡ table - base + 4 + 12 * count → ⊥) → (v : ℕ) → v ≡ wordAt section (k + 12) →
+      right-in : (k + 12 ≡ table - base + 4 + 12 * count → ⊥) → (v : ℕ) → v ≡ wordAt section (k + 12) →
           Answer (leb v offset) ≡ rightBreaks (alone section base) table count i offset
       right-in n v p = go (ltb (i + 1) count) refl
         where
@@ -168,6 +196,26 @@ module _ (section : List ℕ) (base : ℕ) where
               right-seen (alone section base) table i count offset (entry-of (i + 1) v) h
               (beside (i + 1) (k + 12) v h (omega (arith, r .place)) p)
           go false t = absurd (n (omega (arith, ltb-false (i + 1) count t, r .inside, w .above, r .place)))
+
+      -- the last row is compared with itself
+      pub right-beside : (t : Bool) → eqb (k + 12) (table - base + 4 + 12 * count) ≡ t →
+          (12 * boolByte t ≤ k + 12) × (k + 12 - 12 * boolByte t + 4 ≤ length section)
+      right-beside true e = (omega arith, omega (arith, r .place, r .inside, w .above, w .whole))
+      right-beside false e =
+          let there = right-there (eqb-false (k + 12) (table - base + 4 + 12 * count) e) in (omega arith, omega arith)
+
+      pub right-said : (t : Bool) → eqb (k + 12) (table - base + 4 + 12 * count) ≡ t → (v : ℕ) →
+          v ≡ wordAt section (k + 12 - 12 * boolByte t) →
+          Answer (leb (v + boolByte t) offset) ≡ rightBreaks (alone section base) table count i offset
+      right-said true e v p =
+          let place : k + 12 - 12 * 1 ≡ k = omega arith in
+          let same : v ≡ offset = p ∙ ap (wordAt section) place ∙ sym (r .read) in
+          ap (λ (b : Bool). Answer b) (lt-leb (v + 1) offset (omega arith)) ∙ right-none-in (eqb-true (k + 12) (table - base + 4 + 12 * count) e)
+      right-said false e v p =
+          let place : k + 12 - 12 * 0 ≡ k + 12 = omega arith in
+          let there : v ≡ wordAt section (k + 12) = p ∙ ap (wordAt section) place in
+          let plain : v + 0 ≡ v = omega arith in
+          ap (λ (x : ℕ). Answer (leb x offset)) plain ∙ right-in (eqb-false (k + 12) (table - base + 4 + 12 * count) e) v there
 
 -- n rows are left, the first of them at offset at
 pub record LeftIn (section : List ℕ) (base table count ret at n : ℕ) : Type 0 where

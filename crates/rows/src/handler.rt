@@ -247,7 +247,8 @@ fn is_held(section: &[u8], base: usize, table: usize) -> bool
     4 + 12 * u32_at(section, k) <= rest
 }
 
-// Whether the left neighbour, if there is one, is not below the row.
+// Whether the left neighbour, if there is one, is not below the row. The first row is compared with itself, and is not below itself:
+// there is no branch to guess.
 fn left_breaks_in(
     section: &[u8],
     base: usize,
@@ -259,13 +260,11 @@ fn left_breaks_in(
     requires { ⌜ RowAt (now section) base table count k offset ⌝ }
     ensures { λ r. ⌜ Answer r ≡ Handler.leftBreaks (alone (now (section .entry)) base) table (number base table k) offset ⌝ }
 {
-    if k == table - base + 4 {
-        return false;
-    }
-    offset <= u32_at(section, k - 12)
+    let first = (k == table - base + 4) as usize;
+    offset < u32_at(section, k + 12 * first - 12) + 1 - first
 }
 
-// Whether the right neighbour, if there is one, is not above the row.
+// Whether the right neighbour, if there is one, is not above the row; the last row is compared with itself in the same way.
 fn right_breaks_in(
     section: &[u8],
     base: usize,
@@ -277,11 +276,8 @@ fn right_breaks_in(
     requires { ⌜ RowAt (now section) base table count k offset ⌝ }
     ensures { λ r. ⌜ Answer r ≡ Handler.rightBreaks (alone (now (section .entry)) base) table count (number base table k) offset ⌝ }
 {
-    let next = k + 12;
-    if next == table - base + 4 + 12 * count {
-        return false;
-    }
-    u32_at(section, next) <= offset
+    let last = (k + 12 == table - base + 4 + 12 * count) as usize;
+    u32_at(section, k + 12 - 12 * last) + last <= offset
 }
 
 // A row that was found: its neighbours, left first, and then the row itself.

@@ -1,43 +1,67 @@
 -- `rows::handler::left_breaks_in` meets its contract. Assumes nothing.
+use mathlib.Core.Path.{refl}
+use Prim.Native.Nat.{_+_, _-_}
 use native.Mathlib.Omega.{arith}
-use Rattle.rows.proofs.Held.{left-none-in, left-in}
+use lib.Dec.{eqb}
+use Rattle.rows.proofs.Held.{left-beside, left-said, test-small}
 use borrow.Author.Needs.{needs}
 use Rattle.rows.proofs.handler.left_breaks_in.Statement.{statement}
 use Rattle.rows.proofs.handler.left_breaks_in.Tie as tie
 
-sub-if1 : tie.Need-sub-if1
-sub-if1 c = search needs
+sub-first : tie.Need-sub-first
+sub-first c = search needs
 
-add-if1 : tie.Need-add-if1
-add-if1 c = search needs
+add-first : tie.Need-add-first
+add-first c = search needs
+
+cast-first : tie.Need-cast-first
+cast-first c = search needs
+
+mul-u32-at : tie.Need-mul-u32-at
+mul-u32-at c =
+    let a = c .before .args in
+    omega (arith, test-small (eqb (a .k) (a .table - a .base + 4)))
+
+add-u32-at : tie.Need-add-u32-at
+add-u32-at c =
+    let a = c .before .args in
+    let p = c .before .pre in
+    omega (arith, test-small (eqb (a .k) (a .table - a .base + 4)), p .place, p .inside, p .whole .whole)
+
+sub-u32-at : tie.Need-sub-u32-at
+sub-u32-at c =
+    let p = c .before .pre in
+    left-beside _ _ _ _ (p .whole) _ _ p _ refl .0
+
+u32-at-requires : tie.Need-u32-at-requires
+u32-at-requires c κs =
+    let p = c .before .pre in
+    left-beside _ _ _ _ (p .whole) _ _ p _ refl .1
+
+add-result : tie.Need-add-result
+add-result c = omega (arith, c .u32-at .ensures .1)
+
+sub-result : tie.Need-sub-result
+sub-result c =
+    let a = c .before .before .args in
+    omega (arith, test-small (eqb (a .k) (a .table - a .base + 4)))
 
 returns : tie.Need-returns
 returns c =
     let p = c .before .before .pre in
-    left-none-in _ _ _ _ (p .whole) _ _ p (c .if1 .taken)
-
-sub-u32-at : tie.Need-sub-u32-at
-sub-u32-at c =
-    let p = c .before .before .pre in
-    omega (arith, p .place, p .whole .above, c .if1 .left)
-
-u32-at-requires : tie.Need-u32-at-requires
-u32-at-requires c κs =
-    let p = c .before .before .pre in
-    omega (arith, p .place, p .inside, p .whole .whole)
-
-returns-2 : tie.Need-returns-2
-returns-2 c =
-    let p = c .before .before .before .pre in
-    left-in _ _ _ _ (p .whole) _ _ p (c .before .if1 .left) _ (c .u32-at .ensures .0)
+    left-said _ _ _ _ (p .whole) _ _ p _ refl _ (c .u32-at .ensures .0)
 
 pub left-breaks-in-spec : {M : Type 1} → statement M
 left-breaks-in-spec =
     tie.close
     (tie.spec
-    sub-if1
-    add-if1
-    returns
+    sub-first
+    add-first
+    cast-first
+    mul-u32-at
+    add-u32-at
     sub-u32-at
     u32-at-requires
-    returns-2)
+    add-result
+    sub-result
+    returns)

@@ -10,8 +10,8 @@ pub struct Number {
 
 #[repr(C)]
 pub struct File {
-    pub status: u32,
     pub regs: Regs,
+    pub status: u32,
 }
 
 #[repr(C)]
@@ -49,18 +49,18 @@ pub struct Landing {
 
 #[repr(C)]
 pub struct Decided {
+    pub regs: Regs,
     pub status: u32,
     pub reason: u32,
-    pub regs: Regs,
 }
 
 #[repr(C)]
 pub struct Stepped {
-    pub status: u32,
+    pub regs: Regs,
     pub function: Record,
     pub number: usize,
     pub interrupted: bool,
-    pub regs: Regs,
+    pub status: u32,
 }
 
 #[repr(C)]
@@ -73,29 +73,29 @@ pub struct Frames {
 
 #[repr(C)]
 pub struct Batch {
-    pub status: u32,
+    pub regs: Regs,
     pub frames: Frames,
     pub number: usize,
     pub interrupted: bool,
-    pub regs: Regs,
+    pub status: u32,
 }
 
 #[repr(C)]
 pub struct Raised {
-    pub status: u32,
-    pub reason: u32,
+    pub unwinding: Unwinding,
     pub number: usize,
     pub sp: usize,
-    pub unwinding: Unwinding,
+    pub status: u32,
+    pub reason: u32,
 }
 
 #[repr(C)]
 pub struct Resumed {
-    pub status: u32,
-    pub reason: u32,
-    pub number: usize,
     pub regs: Regs,
     pub unwinding: Unwinding,
+    pub number: usize,
+    pub status: u32,
+    pub reason: u32,
 }
 
 unsafe extern "C" {

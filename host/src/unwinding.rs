@@ -48,16 +48,16 @@ pub struct Unwinding {
     pub regs: Regs,
     /// Its number.
     pub number: usize,
-    /// Whether it was interrupted.
-    pub interrupted: bool,
     /// The exception, which every landing gets in register 0.
     pub exception: usize,
-    /// Whether a frame was chosen.
-    pub chosen: bool,
     /// Its number.
     pub chosen_number: usize,
     /// Its stack pointer.
     pub chosen_sp: usize,
+    /// Whether it was interrupted.
+    pub interrupted: bool,
+    /// Whether a frame was chosen.
+    pub chosen: bool,
 }
 
 /// What a resume call comes to.

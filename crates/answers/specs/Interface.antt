@@ -16,6 +16,7 @@ use Rattle.state.specs.declared.Status.the-variants as state-case
 use Rattle.program.specs.declared.Ended as program
 use Rattle.program.specs.declared.Status as program-status
 use Rattle.program.specs.declared.Status.the-variants as program-case
+use Rattle.personality.specs.Reason.{installContext, fatalPhase2}
 use Rattle.personality.specs.declared.Decided as personality
 use Rattle.personality.specs.declared.Code.{Code}
 use Rattle.personality.specs.declared.Code.the-variants as code
@@ -37,8 +38,6 @@ use Rattle.unwind.specs.declared.ResumeAnswer.{ResumeAnswer}
 use Rattle.unwind.specs.declared.ResumeAnswer.the-variants as resume
 use Rattle.unwind.specs.declared.Resumed as unwind-resume
 use Rattle.model.specs.Search as search-phase
-use Rattle.model.specs.Cleanup as cleanup-phase
-use Rattle.model.specs.Unwinding.{frameOf}
 use Rattle.leb.specs.Reader as Reader
 use Rattle.rows.specs.Row as Row
 use Rattle.rows.specs.Row.{Pad}
@@ -169,19 +168,34 @@ raisedBy u (raise.Refused n) = record { status = n; reason = 0; number = 0; sp =
 abbrev pub raised : unwind-raise.Raised → Raised
 raised r = raisedBy (r .unwinding) (r .answer)
 
--- a sweep call, by its answer: reason 7 with the landing's frame number, or 2; none where it is finished
-abbrev pub resumedBy : Regs → Unwinding → ResumeAnswer → Resumed
-resumedBy regs u (resume.Install number) =
-    record {
-      status = 0;
-      reason = cleanup-phase.reasonOf (cleanup-phase.Install number (regs .r) (frameOf u));
-      number = number;
-      regs = regs;
-      unwinding = u;
-    }
-resumedBy regs u resume.Fatal = record { status = 0; reason = cleanup-phase.reasonOf cleanup-phase.Fatal; number = 0; regs = regs; unwinding = u }
-resumedBy regs u resume.Finished = record { status = 1; reason = 0; number = 0; regs = regs; unwinding = u }
-resumedBy regs u (resume.Refused n) = record { status = n; reason = 0; number = 0; regs = regs; unwinding = u }
+-- the status of a sweep call: none where it is finished
+abbrev pub resumeStatus : ResumeAnswer → ℕ
+resumeStatus (resume.Install number) = 0
+resumeStatus resume.Fatal = 0
+resumeStatus resume.Finished = 1
+resumeStatus (resume.Refused n) = n
 
+-- its reason: 7 for a landing, 2 for a terminate row, else 0
+abbrev pub resumeReason : ResumeAnswer → ℕ
+resumeReason (resume.Install number) = installContext
+resumeReason resume.Fatal = fatalPhase2
+resumeReason resume.Finished = 0
+resumeReason (resume.Refused n) = 0
+
+-- the frame number of a landing, else 0
+abbrev pub resumeNumber : ResumeAnswer → ℕ
+resumeNumber (resume.Install number) = number
+resumeNumber resume.Fatal = 0
+resumeNumber resume.Finished = 0
+resumeNumber (resume.Refused n) = 0
+
+-- a sweep call
 abbrev pub resumed : unwind-resume.Resumed → Resumed
-resumed r = resumedBy (r .regs) (r .unwinding) (r .answer)
+resumed r =
+    record {
+      status = resumeStatus (r .answer);
+      reason = resumeReason (r .answer);
+      number = resumeNumber (r .answer);
+      regs = r .regs;
+      unwinding = r .unwinding;
+    }

@@ -48,8 +48,8 @@ pub struct Number {
 // A register file; for a refusal the one that came in.
 #[repr(C)]
 pub struct File {
-    pub status: u32,
     pub regs: Regs,
+    pub status: u32,
 }
 
 // The record of a pc.
@@ -93,51 +93,51 @@ pub struct Landing {
 // A reason with its register file; for a refusal the file that came in.
 #[repr(C)]
 pub struct Decided {
+    pub regs: Regs,
     pub status: u32,
     pub reason: u32,
-    pub regs: Regs,
 }
 
 // A frame step: past the frame its record, and its caller's number and file; else the frame's own.
 #[repr(C)]
 pub struct Stepped {
-    pub status: u32,
+    pub regs: Regs,
     pub function: Record,
     pub number: usize,
     pub interrupted: bool,
-    pub regs: Regs,
+    pub status: u32,
 }
 
 // Up to 16 frames of a walk, and the frame that it goes on from; at the end, which is told as none, and for a refusal the frame
 // that came in.
 #[repr(C)]
 pub struct Batch {
-    pub status: u32,
+    pub regs: Regs,
     pub frames: Frames,
     pub number: usize,
     pub interrupted: bool,
-    pub regs: Regs,
+    pub status: u32,
 }
 
 // A throw: the reason 6 with the chosen frame's number and sp, 3 or 5; and the unwinding at frame 0.
 #[repr(C)]
 pub struct Raised {
-    pub status: u32,
-    pub reason: u32,
+    pub unwinding: Unwinding,
     pub number: usize,
     pub sp: usize,
-    pub unwinding: Unwinding,
+    pub status: u32,
+    pub reason: u32,
 }
 
 // A sweep call: the reason 7 with the landing's frame number and file, or 2; none where it is finished. The unwinding is past
 // the frame that landed, else the one that came in.
 #[repr(C)]
 pub struct Resumed {
-    pub status: u32,
-    pub reason: u32,
-    pub number: usize,
     pub regs: Regs,
     pub unwinding: Unwinding,
+    pub number: usize,
+    pub status: u32,
+    pub reason: u32,
 }
 
 // A number.
@@ -456,41 +456,54 @@ pub fn to_raised(raised: unwind::Raised) -> Raised
     }
 }
 
-// A sweep call.
+// The status of a sweep call.
+fn resume_status(answer: ResumeAnswer) -> u32
+    ensures { λ r. ⌜ r ≡ Interface.resumeStatus answer ⌝ }
+{
+    match answer {
+        ResumeAnswer::Install(_) => ANSWERED,
+        ResumeAnswer::Fatal => ANSWERED,
+        ResumeAnswer::Finished => NONE,
+        ResumeAnswer::Refused(n) => n,
+    }
+}
+
+// Its reason.
+fn resume_reason(answer: ResumeAnswer) -> u32
+    ensures { λ r. ⌜ r ≡ Interface.resumeReason answer ⌝ }
+{
+    match answer {
+        ResumeAnswer::Install(_) => URC_INSTALL_CONTEXT,
+        ResumeAnswer::Fatal => URC_FATAL_PHASE2_ERROR,
+        ResumeAnswer::Finished => 0,
+        ResumeAnswer::Refused(_) => 0,
+    }
+}
+
+// The frame number of a landing.
+fn resume_number(answer: ResumeAnswer) -> usize
+    ensures { λ r. ⌜ r ≡ Interface.resumeNumber answer ⌝ }
+{
+    match answer {
+        ResumeAnswer::Install(number) => number,
+        ResumeAnswer::Fatal => 0,
+        ResumeAnswer::Finished => 0,
+        ResumeAnswer::Refused(_) => 0,
+    }
+}
+
+// A sweep call. One literal for every answer: the file and the unwinding are copied once.
 pub fn to_resumed(resumed: unwind::Resumed) -> Resumed
     ensures { λ r. ⌜ r ≡ Interface.resumed resumed ⌝ }
 {
     let regs = resumed.regs;
     let unwinding = resumed.unwinding;
     let answer = resumed.answer;
-    match answer {
-        ResumeAnswer::Install(number) => Resumed {
-            status: ANSWERED,
-            reason: URC_INSTALL_CONTEXT,
-            number,
-            regs,
-            unwinding,
-        },
-        ResumeAnswer::Fatal => Resumed {
-            status: ANSWERED,
-            reason: URC_FATAL_PHASE2_ERROR,
-            number: 0,
-            regs,
-            unwinding,
-        },
-        ResumeAnswer::Finished => Resumed {
-            status: NONE,
-            reason: 0,
-            number: 0,
-            regs,
-            unwinding,
-        },
-        ResumeAnswer::Refused(n) => Resumed {
-            status: n,
-            reason: 0,
-            number: 0,
-            regs,
-            unwinding,
-        },
+    Resumed {
+        status: resume_status(answer),
+        reason: resume_reason(answer),
+        number: resume_number(answer),
+        regs,
+        unwinding,
     }
 }

@@ -120,8 +120,8 @@ pub struct Regs {
 
 // A register file after a call: the next one, or for a refusal the one that came in.
 pub struct Next {
-    pub status: Status,
     pub regs: Regs,
+    pub status: Status,
 }
 
 // The numbers of an architecture.

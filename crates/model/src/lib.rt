@@ -8,9 +8,9 @@ use arch::Regs;
 pub struct Unwinding {
     pub regs: Regs,
     pub number: usize,
-    pub interrupted: bool,
     pub exception: usize,
-    pub chosen: bool,
     pub chosen_number: usize,
     pub chosen_sp: usize,
+    pub interrupted: bool,
+    pub chosen: bool,
 }

@@ -48,8 +48,8 @@ pub enum Code {
 
 // A reason with the register file that goes with it; for a refusal the file that came in.
 pub struct Decided {
-    pub code: Code,
     pub regs: Regs,
+    pub code: Code,
 }
 
 // A frame has no row: it was interrupted, has no table, or its pc lies below its start.

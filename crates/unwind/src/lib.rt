@@ -74,10 +74,10 @@ pub enum Walked {
 
 // A frame step: past the frame its caller's number and file; else the frame's own.
 pub struct Stepped {
-    pub answer: Walked,
+    pub regs: Regs,
     pub number: usize,
     pub interrupted: bool,
-    pub regs: Regs,
+    pub answer: Walked,
 }
 
 // Frames of a walk, the innermost first: the start of each one's record, its pc and its sp. What stands past the count is 0.
@@ -98,11 +98,11 @@ pub enum WalkAnswer {
 
 // Up to 16 frames of a walk. If there may be more, the frame that the walk goes on from; else the one that came in.
 pub struct Batch {
-    pub answer: WalkAnswer,
+    pub regs: Regs,
     pub frames: Frames,
     pub number: usize,
     pub interrupted: bool,
-    pub regs: Regs,
+    pub answer: WalkAnswer,
 }
 
 // What a throw comes to: 6 with the chosen frame's number and sp, 3, 5, or a refusal.
@@ -115,8 +115,8 @@ pub enum RaiseAnswer {
 
 // A throw, and the unwinding at frame 0.
 pub struct Raised {
-    pub answer: RaiseAnswer,
     pub unwinding: Unwinding,
+    pub answer: RaiseAnswer,
 }
 
 // What a sweep call comes to: the landing of the frame with this number, 2, finished, or a refusal.
@@ -129,9 +129,9 @@ pub enum ResumeAnswer {
 
 // A sweep call: for a landing the file at the pad and the unwinding past the frame; else those that came in.
 pub struct Resumed {
-    pub answer: ResumeAnswer,
     pub regs: Regs,
     pub unwinding: Unwinding,
+    pub answer: ResumeAnswer,
 }
 
 // A throw, and one of the calls after it.

@@ -87,7 +87,7 @@ loop-again : tie.Need-loop-again Inv-loop μ-loop
 loop-again c =
     let x = c .before .before .before .before .before .before .before in
     halved-turn _ _ _ _ _ _ _ _ (x .loop .inv) _ (c .before .before .before .start-at .ensures) _ refl
-        _ (c .before .before .choice .ensures) _ (c .before .choice2 .ensures) _ (c .choice3 .ensures)
+    _ (c .before .before .choice .ensures) _ (c .before .choice2 .ensures) _ (c .choice3 .ensures)
 
 returns : tie.Need-returns Inv-loop μ-loop
 returns c = halved-over _ _ _ _ _ _ _ _ (c .before .loop .inv) (c .loop-test .left)

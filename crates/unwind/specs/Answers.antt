@@ -1,5 +1,5 @@
 -- Document 01's number and values for each case of this crate's answers.
-use mathlib.Core.Bool.{Bool}
+use mathlib.Core.Bool.{Bool, true, false}
 use mathlib.Core.List.{List}
 use Prim.Native.Nat.{ℕ}
 use Rattle.failure.specs.Outcome as Outcome
@@ -94,6 +94,13 @@ cleanedAs (resume.Refused n) file next = Outcome.Refused n
 
 abbrev pub cleaned : Resumed → Outcome Cleaned
 cleaned r = cleanedAs (r .answer) (r .regs .r) (Unwinding.frameOf (r .unwinding))
+
+-- an answer is a landing
+abbrev pub isLanding : ResumeAnswer → Bool
+isLanding (resume.Install number) = true
+isLanding resume.Fatal = false
+isLanding resume.Finished = false
+isLanding (resume.Refused n) = false
 
 -- call number n of resume, counted from 0
 abbrev pub callNumber : ℕ → Lent → ℕ → Unwinding → Resumed

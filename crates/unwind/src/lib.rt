@@ -22,7 +22,7 @@ ghost use Rattle.model.specs.Search as Search;
 ghost use Rattle.model.specs.Cleanup as Cleanup;
 ghost use Rattle.model.specs.Unwinding as Spec;
 ghost use Rattle.model.specs.Call.{Promised};
-ghost use Rattle.unwind.specs.Answers.{frameWith, frameAt, staying, stepped, searched, raisedBy, unmoved, resumedBy, cleaned, callNumber, unwoundBy};
+ghost use Rattle.unwind.specs.Answers.{frameWith, frameAt, staying, stepped, searched, raisedBy, unmoved, resumedBy, cleaned, isLanding, callNumber, unwoundBy};
 ghost use Rattle.unwind.specs.Batches.{givenAs, given, noFrames, walkFrom, walkedBy, walking};
 ghost use Rattle.unwind.specs.Turns.{fileTold, callerByRun, advanced, passed, recordOf, located, metRow, rowPast, meeting, seen, Follows, SearchTurn, cleanRow, cleanMet};
 use arch::COLUMNS;
@@ -1226,7 +1226,20 @@ pub fn resume<'a>(
 
 // A throw and the calls after it.
 
-// Call number n of resume, counted from 0, each with what the one before it handed back.
+// The answer is a landing.
+fn lands(answer: ResumeAnswer) -> bool
+    ensures { λ r. ⌜ r ≡ isLanding answer ⌝ }
+{
+    match answer {
+        ResumeAnswer::Install(_) => true,
+        ResumeAnswer::Fatal => false,
+        ResumeAnswer::Finished => false,
+        ResumeAnswer::Refused(_) => false,
+    }
+}
+
+// Call number n of resume, counted from 0, each with what the one before it handed back. After an answer that is no landing every
+// later one is the same.
 fn resume_nth<'a>(
     section: &'a [u8],
     section_base: usize,
@@ -1246,6 +1259,10 @@ fn resume_nth<'a>(
     let mut i = 0;
     while i < n {
         let resumed = resume(section, section_base, stack, stack_base, arch, u);
+        let answer = resumed.answer;
+        if !lands(answer) {
+            return resumed;
+        }
         u = resumed.unwinding;
         i = i + 1;
     }

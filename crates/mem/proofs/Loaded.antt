@@ -1,5 +1,5 @@
 -- What a part that was returned for the n bytes at an address says of the number there, over the width. Assumes nothing.
-use mathlib.Core.Path.{_≡_, sym, ap}
+use mathlib.Core.Path.{_≡_, ap}
 use mathlib.Core.Logic.{⊎-elim}
 use mathlib.Core.List.{List}
 use Prim.Native.Nat.{ℕ, _<_, _^_}
@@ -11,8 +11,7 @@ use Rattle.failure.specs.Failure.{OutsideMemory}
 use Rattle.mem.specs.Memory.{Memory, lent}
 use Rattle.mem.specs.Place.{placeOf, bytesAt}
 use Rattle.mem.specs.Part.{PartOf}
-use Rattle.mem.specs.Word.{littleEndian, load, loadSigned, Loaded}
-use Rattle.mem.specs.Wrapping.{signed32}
+use Rattle.mem.specs.Word.{littleEndian, load, Loaded}
 use Rattle.mem.specs.declared.load.Word.the-variants.{Value, Outside}
 use Rattle.mem.proofs.Part.{part-shows}
 
@@ -51,12 +50,3 @@ module _ (section stack : RefT (List ℕ)) (sectionBase stackBase a n : ℕ) (r 
             (part-shows section stack sectionBase stackBase a n r some p);
         fits = tt;
       }
-
--- the signed number at an address is that of the word there
-pub signed-value : (m : Memory) (a w s : ℕ) → Answer w ≡ load m 4 a → s ≡ signed32 w → Answer s ≡ loadSigned m a
-unfolding loadSigned
-signed-value m a w s e p = rw (sym e) (ap Answer p)
-
-pub signed-outside : (m : Memory) (a : ℕ) → Refused OutsideMemory ≡ load m 4 a → Refused OutsideMemory ≡ loadSigned m a
-unfolding loadSigned
-signed-outside m a e = rw (sym e)

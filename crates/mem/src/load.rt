@@ -5,7 +5,7 @@ ghost use lib.ListN.{length};
 ghost use Rattle.mem.specs.Memory.{lent};
 ghost use Rattle.mem.specs.Place.{holds, placed, placeOf};
 ghost use Rattle.mem.specs.Part.{PartOf};
-ghost use Rattle.mem.specs.Word.{littleEndian, loaded, wordIn, Loaded};
+ghost use Rattle.mem.specs.Word.{littleEndian, loaded, wordIn, Below, Loaded};
 
 // Where bytes stand: an offset in the section or in the stack.
 pub enum Place {
@@ -124,7 +124,7 @@ fn le8(b: &[u8]) -> usize
 
 // The u64 in eight bytes; 27 for any other count of them.
 pub fn u64_in(b: &[u8]) -> Word
-    ensures { λ r. ⌜ loaded r ≡ wordIn 8 (now (b .entry)) ⌝ }
+    ensures { λ r. ⌜ (loaded r ≡ wordIn 8 (now (b .entry))) × Below (256 ^ 8) r ⌝ }
 {
     if b.len() == 8 {
         return Word::Value(le8(b));
@@ -183,8 +183,5 @@ pub fn load_u64<'a>(
         ⌝ }
 {
     let b = bytes_at(section, section_base, stack, stack_base, a, 8);
-    if b.len() == 8 {
-        return Word::Value(le8(b));
-    }
-    Word::Outside
+    u64_in(b)
 }

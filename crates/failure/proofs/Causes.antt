@@ -4,7 +4,7 @@ use mathlib.Core.Bool.{false}
 use mathlib.Core.List.{List, [], _∷_}
 use Prim.Native.Nat.{ℕ}
 use borrow.Author.Tests.{ne-eqb}
-use Rattle.failure.specs.Failure.{Cause, Host, TableMaker, Registers, Nobody, oneOf, causeOf}
+use Rattle.failure.specs.Failure.{Cause, Host, TableMaker, Registers, Nobody, oneOf, host, tableMaker, registers, causeOf}
 
 -- each of the numbers has the cause
 abbrev pub Each : Cause → List ℕ → Type 0
@@ -37,5 +37,5 @@ causes =
       host = (refl, (refl, (refl, (refl, tt))));
       tableMaker = (refl, (refl, (refl, (refl, (refl, (refl, tt))))));
       registers = (refl, (refl, (refl, (refl, tt))));
-      nobody = λ n h t r. rw (not-among n (28 ∷ 27 ∷ 29 ∷ 22 ∷ []) h, not-among n (10 ∷ 11 ∷ 17 ∷ 18 ∷ 19 ∷ 24 ∷ []) t, not-among n (12 ∷ 20 ∷ 23 ∷ 25 ∷ []) r) refl;
+      nobody = λ n h t r. rw (not-among n host h, not-among n tableMaker t, not-among n registers r) refl;
     }

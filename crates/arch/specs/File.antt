@@ -41,7 +41,7 @@ set a file reg value = do
 abbrev pub fp : Arch → List ℕ → ℕ
 fp a file = getD file (a .fp) 0
 
--- the stack pointer, which does too
+-- the stack pointer, which stands in the column of its number
 abbrev pub sp : Arch → List ℕ → ℕ
 sp a file = getD file (a .sp) 0
 

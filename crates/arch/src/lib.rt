@@ -21,7 +21,7 @@ pub const X86_64: u8 = 2;
 // A landing pad finds the exception in this register, on both architectures.
 pub const DATA_REG0: usize = 0;
 
-// And 0 in this one.
+// A landing pad finds 0 in this register, on both architectures.
 pub const DATA_REG1: usize = 1;
 
 // The columns of a register file: 0 to 31 by number, then registers 72 to 79 of aarch64, then pc.
@@ -52,7 +52,7 @@ const SAVED_AARCH64: [u16; 18] = [
     79,
 ];
 
-// The same on x86-64.
+// The DWARF numbers that the bits of a version 1 mask name on x86-64, from bit 0.
 const SAVED_X86_64: [u16; 5] = [3, 12, 13, 14, 15];
 
 // The numbers of one architecture.
@@ -63,7 +63,8 @@ pub struct Arch2 {
     pub sp: u16,
     pub fp: u16,
     pub ra: u16,
-    // At entry: how many units of 8 bytes the CFA lies above sp, and the slot of the return address, 0 where it is in its register.
+    // At entry: how many units of 8 bytes the CFA lies above sp, and the slot of the return address, 0 where it is in its
+    // register.
     pub entry_cfa: u32,
     pub entry_ra_slot: u16,
     // Registers below low stand in the column of their number. The high_count registers from number high on stand in the columns

@@ -500,7 +500,7 @@ pub fn lookup_part(part: &[u8], base: usize, pc: usize, arch: u8) -> Lookup
     found(part, base, find(part, base, pc, arch))
 }
 
-// The record of pc in the section that is lent.
+// The record of pc in the section that is lent; without a call of `lookup_part`, whose answer would go through memory.
 pub fn lookup_arch(
     section: &[u8],
     section_base: usize,

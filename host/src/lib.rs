@@ -123,7 +123,7 @@ pub struct Regs {
     pub r: [usize; 41],
 }
 
-/// One decoded function record.
+/// The record of a function, with addresses in the place of its offsets.
 #[derive(Clone, Copy, PartialEq, Eq, Debug)]
 #[repr(C)]
 pub struct Record {
@@ -133,18 +133,18 @@ pub struct Record {
     pub end: usize,
     /// Version 1: the frame word. Version 2: 0.
     pub frame: u32,
-    /// Address of the row table, 0 where there is none. Version 2: of the program that it follows.
+    /// Where its row table stands, 0 for none; in version 2 the address of the program, which the table comes after.
     pub handlers: usize,
-    /// Version 2: address of the state program, 0 where there is none. Version 1: 0.
+    /// Where its state program stands, 0 for none and in version 1.
     pub program: usize,
-    /// Version 2: the chunk's end. Version 1: 0.
+    /// The end of its chunk, which program and rows stay below; 0 in version 1.
     pub limit: usize,
     /// The version of the chunk, 1 or 2.
     pub version: u8,
 }
 
-/// The unwind state at one instruction: CFA = (sp or fp) + 8 * `cfa_units`; register `regs[i]` is saved at CFA - 8 *
-/// `slots[i]` for i below `count`, which is at most 32.
+/// What is known of a frame at one instruction: its base, how far above it the CFA lies, and where registers were saved: `regs[i]`
+/// in slot `slots[i]`, 8 * `slots[i]` bytes below the CFA, for i below `count`, which is at most 32.
 #[derive(Clone, Copy, PartialEq, Eq, Debug)]
 #[repr(C)]
 pub struct State {

@@ -1,4 +1,4 @@
--- Laws of `known`, the test for 28 that every public function makes first. Assumes nothing.
+-- Laws of `known`, the test for 28 that a public function of this crate makes first, if it takes an architecture. Assumes nothing.
 use mathlib.Core.Path.{_≡_}
 use mathlib.Core.Bool.{true, false}
 use Prim.Native.Nat.{ℕ}

@@ -7,6 +7,7 @@ use Rattle.failure.specs.Choice.{if_then_else_}
 use Rattle.failure.specs.Outcome.{Outcome, Refused, Answer}
 use Rattle.failure.specs.Failure.{BadOpening}
 
+-- the numbers of one architecture
 pub record Arch : Type 0 where
   -- the bytes that an advance counts
   pub unit : ℕ
@@ -17,7 +18,8 @@ pub record Arch : Type 0 where
   -- at entry: the units of the CFA above sp, and the return address's slot, 0 where it is still in its register
   pub entryUnits : ℕ
   pub entrySlot : ℕ
-  -- registers 0 to low - 1 stand in the column of their number, and highCount more, from number high on, from highColumn on
+  -- registers 0 to low - 1 stand in the column of their number, the highCount registers from number high on in the columns from
+  -- highColumn on
   pub low : ℕ
   pub high : ℕ
   pub highCount : ℕ

@@ -37,19 +37,22 @@ set a file reg value = do
   k ← columnOf a reg
   Answer (ListN.set file k value)
 
--- the frame pointer and the stack pointer, which stand in the columns of their numbers, and pc
+-- the frame pointer, which stands in the column of its number
 abbrev pub fp : Arch → List ℕ → ℕ
 fp a file = getD file (a .fp) 0
 
+-- the stack pointer, which stands in the column of its number
 abbrev pub sp : Arch → List ℕ → ℕ
 sp a file = getD file (a .sp) 0
 
+-- pc
 abbrev pub pc : List ℕ → ℕ
 pc file = getD file pcColumn 0
 
--- the file with the stack pointer set, and with pc set
+-- the file with the stack pointer set
 abbrev pub setSp : Arch → List ℕ → ℕ → List ℕ
 setSp a file value = ListN.set file (a .sp) value
 
+-- the file with pc set
 abbrev pub setPc : List ℕ → ℕ → List ℕ
 setPc file value = ListN.set file pcColumn value

@@ -12,21 +12,25 @@ ghost use Rattle.arch.specs.Answers.{inCode, columned, valued, next};
 use failure::BAD_OPENING;
 use failure::UNKNOWN_REGISTER;
 
+// The number of aarch64.
 pub const AARCH64: u8 = 1;
 
+// The number of x86-64.
 pub const X86_64: u8 = 2;
 
-// The registers that a personality routine passes to a landing pad, on both.
+// A landing pad finds the exception in this register, on both architectures.
 pub const DATA_REG0: usize = 0;
 
+// A landing pad finds 0 in this register, on both architectures.
 pub const DATA_REG1: usize = 1;
 
 // The columns of a register file: 0 to 31 by number, then registers 72 to 79 of aarch64, then pc.
 pub const COLUMNS: usize = 41;
 
+// The column of pc.
 pub const PC_COLUMN: usize = 40;
 
-// The DWARF numbers that the bits of a version 1 mask name, from bit 0.
+// The DWARF numbers that the bits of a version 1 mask name on aarch64, from bit 0.
 const SAVED_AARCH64: [u16; 18] = [
     19,
     20,
@@ -48,9 +52,10 @@ const SAVED_AARCH64: [u16; 18] = [
     79,
 ];
 
+// The DWARF numbers that the bits of a version 1 mask name on x86-64, from bit 0.
 const SAVED_X86_64: [u16; 5] = [3, 12, 13, 14, 15];
 
-// What a state program and a register file mean on one architecture.
+// The numbers of one architecture.
 pub struct Arch2 {
     // The bytes that an advance counts.
     pub unit: usize,
@@ -58,16 +63,19 @@ pub struct Arch2 {
     pub sp: u16,
     pub fp: u16,
     pub ra: u16,
-    // At entry CFA = sp + 8 * entry_cfa; the return address is in its register (0) or in this slot.
+    // At entry: how many units of 8 bytes the CFA lies above sp, and the slot of the return address, 0 where it is in its
+    // register.
     pub entry_cfa: u32,
     pub entry_ra_slot: u16,
-    // Registers below low stand in the column of their number; high_count more, from high on, from high_column on.
+    // Registers below low stand in the column of their number. The high_count registers from number high on stand in the columns
+    // from high_column on.
     pub low: u16,
     pub high: u16,
     pub high_count: u16,
     pub high_column: usize,
 }
 
+// The numbers of aarch64.
 const AARCH64_NUMBERS: Arch2 = Arch2 {
     unit: 4,
     sp: 31,
@@ -81,6 +89,7 @@ const AARCH64_NUMBERS: Arch2 = Arch2 {
     high_column: 32,
 };
 
+// The numbers of x86-64.
 const X86_64_NUMBERS: Arch2 = Arch2 {
     unit: 1,
     sp: 7,

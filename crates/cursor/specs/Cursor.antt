@@ -47,7 +47,7 @@ valueOf uleb.Limit = value.Limit
 valueOf uleb.TooLarge = value.TooLarge
 valueOf uleb.Outside = value.Outside
 
--- document 01's number and value for each case of a Value
+-- document 01's number and value for each case of a Value: the limit met and a number too long or too large are both 18
 abbrev pub numberedValue : Value → Outcome ℕ
 numberedValue (value.Is v) = Answer v
 numberedValue value.Limit = Refused BadEkoRecord

@@ -6,45 +6,59 @@ use Prim.Native.Nat.{ℕ}
 use lib.Dec.{eqb}
 use Rattle.failure.specs.Choice.{if_then_else_}
 
+-- a fifth remember in a state program
 abbrev pub RememberStackOverflow : ℕ
 RememberStackOverflow = 10
 
+-- a register number that the architecture's file does not have
 abbrev pub UnknownRegister : ℕ
 UnknownRegister = 11
 
+-- the CFA that a state gives is 0
 abbrev pub BadCfaRule : ℕ
 BadCfaRule = 12
 
+-- a fault in a chunk's header, its size or its end; a magic of 0 is none
 abbrev pub BadEkoHeader : ℕ
 BadEkoHeader = 17
 
+-- a record, frame word, state program, number or row breaks its rules, or a byte is at or past the limit
 abbrev pub BadEkoRecord : ℕ
 BadEkoRecord = 18
 
+-- the left neighbour of the record found ends above its start, or the right one starts below its end
 abbrev pub EkoUnsorted : ℕ
 EkoUnsorted = 19
 
+-- the caller's sp is lower than the frame's, or equal past the first frame
 abbrev pub StackNotAdvancing : ℕ
 StackNotAdvancing = 20
 
+-- a catch below the chosen number, the chosen frame with another sp or without catch, or an end before it
 abbrev pub HandlerFrameMissed : ℕ
 HandlerFrameMissed = 22
 
+-- fp is the base and is 0 or no multiple of 8
 abbrev pub Misaligned : ℕ
 Misaligned = 23
 
+-- a row's neighbour breaks the strict order of offsets, or a delta is 0
 abbrev pub EkoAmbiguousCallSite : ℕ
 EkoAmbiguousCallSite = 24
 
+-- an interrupted frame has a version 1 word of kind 1 or 2
 abbrev pub EkoAsyncFrame : ℕ
 EkoAsyncFrame = 25
 
+-- the bytes to be read lie whole in neither slice
 abbrev pub OutsideMemory : ℕ
 OutsideMemory = 27
 
+-- the opening is broken, the architecture is not 1 or 2, or a state counts more than 32 pairs
 abbrev pub BadOpening : ℕ
 BadOpening = 28
 
+-- 1,024 frames were given, and the walk goes on
 abbrev pub TooManyFrames : ℕ
 TooManyFrames = 29
 
@@ -65,11 +79,11 @@ tableMaker = RememberStackOverflow ∷ UnknownRegister ∷ BadEkoHeader ∷ BadE
 abbrev pub registers : List ℕ
 registers = BadCfaRule ∷ StackNotAdvancing ∷ Misaligned ∷ EkoAsyncFrame ∷ []
 
--- who can mend what a call was turned back for; Nobody where no refusal has the number
+-- who causes a refusal; Nobody where no refusal has the number
 pub data Cause : Type 0 where
   Host TableMaker Registers Nobody : Cause
 
--- who causes a refusal with this number
+-- who causes the refusals with a number
 unfoldable pub causeOf : ℕ → Cause
 causeOf n =
     if oneOf n host then Host

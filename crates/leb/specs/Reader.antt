@@ -65,13 +65,13 @@ numbered variant.Limit = Refused BadEkoRecord
 numbered variant.TooLarge = Refused BadEkoRecord
 numbered variant.Outside = Refused OutsideMemory
 
--- document 01's number and value for each case of a Byte
+-- document 01's number and value for each case of a Byte: the limit met is 18
 abbrev pub numberedByte : Byte → Outcome ℕ
 numberedByte (byte.Is b) = Answer b
 numberedByte byte.Limit = Refused BadEkoRecord
 numberedByte byte.Outside = Refused OutsideMemory
 
--- and for each case of a Number
+-- document 01's number and values for each case of a Number
 abbrev pub told : Number → Outcome Read
 told (number.Is v next) = Answer (record { value = v; next = next })
 told (number.Refused n) = Refused n

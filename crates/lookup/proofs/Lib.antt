@@ -4,7 +4,7 @@ pub mod Headers
 pub mod Records
 pub mod Halving
 pub mod Neighbours
-pub mod Gate
+pub mod InRange
 pub mod Turns
 pub mod Places
 pub mod Opened

@@ -10,12 +10,12 @@ use Rattle.failure.specs.Outcome.{Answer}
 use Rattle.mem.proofs.Tests.{both}
 use Rattle.lookup.specs.Record.{holds}
 use Rattle.lookup.specs.Search.{middle, halve, leftMeets, rightMeets, search}
-use Rattle.lookup.specs.Lookup.{gate}
+use Rattle.lookup.specs.Lookup.{inRange}
 use Rattle.lookup.specs.declared.Record.{Record}
 use Rattle.lookup.proofs.Records.{within-holds}
 use Rattle.lookup.proofs.Halving.{halve-up, halve-down, halve-last}
 use Rattle.lookup.proofs.Neighbours.{left-none, left-some, right-none, right-some, settle-not, settle-held}
-use Rattle.lookup.proofs.Gate.{gate-open}
+use Rattle.lookup.proofs.InRange.{range-within}
 
 -- start ≤ end ≤ next start
 pub record InOrder (rec : ℕ → Record) (count : ℕ) : Type 0 where
@@ -80,9 +80,9 @@ module _ (rec : ℕ → Record) (count : ℕ) (o : InOrder rec count) where
           let same : i ≡ j = omega (arith, ltb-false i j e) in
           rw same (omega arith)
 
-  -- neighbours leave a record alone
-  left-alone : (i : ℕ) → i < count → leftMeets rec i ≡ false
-  left-alone i h = go (eqb i 0) refl
+  -- neighbours do not overlap a record
+  left-apart : (i : ℕ) → i < count → leftMeets rec i ≡ false
+  left-apart i h = go (eqb i 0) refl
     where
       go : (z : Bool) → eqb i 0 ≡ z → leftMeets rec i ≡ false
       go true e = sym (left-none rec i (eqb-true i 0 e))
@@ -91,8 +91,8 @@ module _ (rec : ℕ → Record) (count : ℕ) (o : InOrder rec count) where
           sym (left-some rec i (rec i .start) (rec (i - 1) .end) some refl refl) ∙
           le-ltb (rec i .start) (rec (i - 1) .end) (before (i - 1) i (omega arith) h)
 
-  right-alone : (i : ℕ) → rightMeets rec count i ≡ false
-  right-alone i = go (ltb (i + 1) count) refl
+  right-apart : (i : ℕ) → rightMeets rec count i ≡ false
+  right-apart i = go (ltb (i + 1) count) refl
     where
       go : (z : Bool) → ltb (i + 1) count ≡ z → rightMeets rec count i ≡ false
       go false e = sym (right-none rec i count (ltb-false (i + 1) count e))
@@ -125,7 +125,7 @@ module _ (rec : ℕ → Record) (count : ℕ) (o : InOrder rec count) where
         let at = within-holds (rec i) pc e in
         let last = halve-finds count rec count pc 0 count (omega arith) (omega arith) (omega arith) (omega (arith, starts-rise 0 i (omega arith) h, at .0)) (λ f. absurd (omega arith)) in
         rw (only i (halve count rec pc 0 count) h e last)
-        (sym (settle-held rec i count pc (rec i) (left-alone i h) (right-alone i) e refl))
+        (sym (settle-held rec i count pc (rec i) (left-apart i h) (right-apart i) e refl))
 
     -- and in one that has not
     pub search-not : 0 < count → rec 0 .start ≤ pc → ((i : ℕ) → i < count → holds (rec i) pc ≡ false) → search rec count pc ≡ Answer none
@@ -133,13 +133,13 @@ module _ (rec : ℕ → Record) (count : ℕ) (o : InOrder rec count) where
     search-not many s away =
         let i = halve count rec pc 0 count in
         let last = halve-finds count rec count pc 0 count many (omega arith) (omega arith) s (λ f. absurd (omega arith)) in
-        sym (settle-not rec i count pc (left-alone i (last .below)) (right-alone i) (away i (last .below)))
+        sym (settle-not rec i count pc (left-apart i (last .below)) (right-apart i) (away i (last .below)))
 
-    -- the gate is open where a record holds pc
-    pub gate-held : (i : ℕ) → i < count → holds (rec i) pc ≡ true → gate rec count pc ≡ true
-    gate-held i h e =
+    -- pc is in the range where a record holds it
+    pub range-held : (i : ℕ) → i < count → holds (rec i) pc ≡ true → inRange rec count pc ≡ true
+    range-held i h e =
         let at = within-holds (rec i) pc e in
-        gate-open rec count pc (λ z. omega arith) (omega (arith, starts-rise 0 i (omega arith) h, at .0)) (last-end (eqb i (count - 1)) refl (at .1))
+        range-within rec count pc (λ z. omega arith) (omega (arith, starts-rise 0 i (omega arith) h, at .0)) (last-end (eqb i (count - 1)) refl (at .1))
       where
         last-end : (t : Bool) → eqb i (count - 1) ≡ t → pc < rec i .end → pc < rec (count - 1) .end
         last-end true q l = rw (eqb-true i (count - 1) q) at l
@@ -147,10 +147,10 @@ module _ (rec : ℕ → Record) (count : ℕ) (o : InOrder rec count) where
             let other : i ≡ count - 1 → ⊥ = eqb-false i (count - 1) q in
             omega (arith, before i (count - 1) (omega arith) (omega arith), o .proper (count - 1) (omega arith))
 
--- an open gate: the chunk has records, and the first starts at or below pc
-pub gate-tells : (rec : ℕ → Record) (count pc : ℕ) → gate rec count pc ≡ true → (0 < count) × (rec 0 .start ≤ pc)
-unfolding gate
-gate-tells rec count pc g =
+-- pc in the range: the chunk has records, and the first starts at or below pc
+pub range-tells : (rec : ℕ → Record) (count pc : ℕ) → inRange rec count pc ≡ true → (0 < count) × (rec 0 .start ≤ pc)
+unfolding inRange
+range-tells rec count pc g =
     let (front, ends) = both (not (eqb count 0) && leb (rec 0 .start) pc) (ltb pc (rec (count - 1) .end)) g in
     let (many, starts) = both (not (eqb count 0)) (leb (rec 0 .start) pc) front in
     let some : count ≡ 0 → ⊥ = eqb-false count 0 (not-true (eqb count 0) many) in

@@ -10,7 +10,7 @@ use Rattle.lookup.specs.Header.{stride, chunkAt, faulty, headAt}
 use Rattle.lookup.specs.Record.{startAt, endAt, addressOf, handlersOf, recordAt, recordAt2, recordOf, holds, badRecord}
 use Rattle.lookup.specs.Search.{halve, leftMeets, rightMeets, settle, search}
 use Rattle.lookup.specs.Tables.{chunksFrom, chunks, records}
-use Rattle.lookup.specs.Lookup.{gate, searchIn, lookup}
+use Rattle.lookup.specs.Lookup.{inRange, searchIn, lookup}
 use Rattle.lookup.specs.Sound.{sound}
 use Rattle.lookup.proofs.Tested.{soundTest, sound-tested}
 
@@ -36,10 +36,10 @@ pub sample-found : lookup sample 0x1000 0x200b 2 ≡
       function = record { start = 0x2008; end = 0x200c; frame = 0; handlers = 0x1035; program = 0x1035; limit = 0x1038; version = 2 };
       chunk = record { offset = 0; version = 2; stride = 12; count = 3; size = 56 };
     }))
-unfolding lookup chunks chunksFrom headAt faulty chunkAt stride word recordOf recordAt recordAt2 startAt endAt addressOf handlersOf badRecord holds gate searchIn search settle leftMeets rightMeets halve
+unfolding lookup chunks chunksFrom headAt faulty chunkAt stride word recordOf recordAt recordAt2 startAt endAt addressOf handlersOf badRecord holds inRange searchIn search settle leftMeets rightMeets halve
 sample-found = refl
 
 -- one in no record
 pub sample-none : lookup sample 0x1000 0x200c 2 ≡ Answer none
-unfolding lookup chunks chunksFrom headAt faulty chunkAt stride word recordOf recordAt recordAt2 startAt endAt addressOf handlersOf badRecord holds gate searchIn search settle leftMeets rightMeets halve
+unfolding lookup chunks chunksFrom headAt faulty chunkAt stride word recordOf recordAt recordAt2 startAt endAt addressOf handlersOf badRecord holds inRange searchIn search settle leftMeets rightMeets halve
 sample-none = refl

@@ -12,11 +12,11 @@ use Rattle.failure.specs.Choice.{if_then_else_}
 use Rattle.failure.specs.Outcome.{Answer}
 use Rattle.lookup.specs.Record.{recordOf, holds}
 use Rattle.lookup.specs.Tables.{Chunks, End, Fault, _▸_, chunks, Entry, entry, entriesOf, entries, records, named}
-use Rattle.lookup.specs.Lookup.{gate, find, lookup}
+use Rattle.lookup.specs.Lookup.{inRange, find, lookup}
 use Rattle.lookup.specs.Sound.{_∈_, SoundFrom, sound}
 use Rattle.lookup.specs.declared.Chunk.{Chunk}
-use Rattle.lookup.proofs.Gate.{search-shut, search-open}
-use Rattle.lookup.proofs.Ordered.{InOrder, fails, search-held, search-not, gate-held, gate-tells}
+use Rattle.lookup.proofs.InRange.{search-skips, search-goes}
+use Rattle.lookup.proofs.Ordered.{InOrder, fails, search-held, search-not, range-held, range-tells}
 
 -- a named record is in the list
 pub named-in : (m i : ℕ) (es : List Entry) (e : Entry) → named m i es ≡ some e → e ∈ es
@@ -105,20 +105,20 @@ module _ (bytes : List ℕ) (base : ℕ) where
     find-here : (pc j : ℕ) → j < c .count → holds (recordOf bytes base c j) pc ≡ true →
         find bytes base pc (c ▸ cs) ≡ Answer (some (record { function = recordOf bytes base c j; chunk = c }))
     find-here pc j h e =
-        let found = sym (search-open bytes base pc c (gate-held (recordOf bytes base c) (c .count) in-order pc j h e)) ∙
+        let found = sym (search-goes bytes base pc c (range-held (recordOf bytes base c) (c .count) in-order pc j h e)) ∙
         search-held (recordOf bytes base c) (c .count) in-order pc j h e in
         rw found (rw (s .passes (entry bytes base m c j) (here j h)))
 
     -- or leaves it to the others
     find-later : (pc : ℕ) → ((j : ℕ) → j < c .count → holds (recordOf bytes base c j) pc ≡ false) →
         find bytes base pc (c ▸ cs) ≡ find bytes base pc cs
-    find-later pc away = go (gate (recordOf bytes base c) (c .count) pc) refl
+    find-later pc away = go (inRange (recordOf bytes base c) (c .count) pc) refl
       where
-        go : (g : Bool) → gate (recordOf bytes base c) (c .count) pc ≡ g → find bytes base pc (c ▸ cs) ≡ find bytes base pc cs
-        go false g = rw (sym (search-shut bytes base pc c g))
+        go : (g : Bool) → inRange (recordOf bytes base c) (c .count) pc ≡ g → find bytes base pc (c ▸ cs) ≡ find bytes base pc cs
+        go false g = rw (sym (search-skips bytes base pc c g))
         go true g =
-            let t = gate-tells (recordOf bytes base c) (c .count) pc g in
-            let nothing = sym (search-open bytes base pc c g) ∙
+            let t = range-tells (recordOf bytes base c) (c .count) pc g in
+            let nothing = sym (search-goes bytes base pc c g) ∙
             search-not (recordOf bytes base c) (c .count) in-order pc (t .0) (t .1) away in
             rw nothing
 

@@ -25,14 +25,14 @@ pub record Found : Type 0 where
   pub function : Record
   pub chunk : Chunk
 
--- a chunk is searched only if it has records and pc is in [first start, last end)
-unfoldable pub gate : (ℕ → Record) → ℕ → ℕ → Bool
-gate rec count pc = not (eqb count 0) && leb (rec 0 .start) pc && ltb pc (rec (count - 1) .end)
+-- a chunk has records and pc is in [first start, last end): only then it is searched
+unfoldable pub inRange : (ℕ → Record) → ℕ → ℕ → Bool
+inRange rec count pc = not (eqb count 0) && leb (rec 0 .start) pc && ltb pc (rec (count - 1) .end)
 
 -- what a chunk has for pc
 unfoldable pub searchIn : List ℕ → ℕ → ℕ → Chunk → Outcome (Option Record)
 searchIn bytes base pc c =
-    if gate (recordOf bytes base c) (c .count) pc then search (recordOf bytes base c) (c .count) pc else Answer none
+    if inRange (recordOf bytes base c) (c .count) pc then search (recordOf bytes base c) (c .count) pc else Answer none
 
 -- the record that holds pc is tested for 18, and is the answer; otherwise the next chunk is tried
 abbrev pub answerOr : Chunk → Outcome (Option Found) → Option Record → Outcome (Option Found)

@@ -29,7 +29,7 @@ leftMeets rec i = ltb 0 i && ltb (rec i .start) (rec (i - 1) .end)
 unfoldable pub rightMeets : (ℕ → Record) → ℕ → ℕ → Bool
 rightMeets rec count i = ltb (i + 1) count && ltb (rec (i + 1) .start) (rec i .end)
 
--- record number i, if its neighbours leave it alone and it holds pc
+-- record number i, if its neighbours do not overlap it and it holds pc
 unfoldable pub settle : (ℕ → Record) → ℕ → ℕ → ℕ → Outcome (Option Record)
 settle rec count pc i =
     if leftMeets rec i || rightMeets rec count i then Refused EkoUnsorted

@@ -31,7 +31,7 @@ pub record Stands (c : Chunk) (i k : ℕ) : Type 0 where
   pub below : i < c .count
   pub place : k ≡ placeOf c i
 
--- some record of a chunk does
+-- some record of a chunk stands at offset k
 pub record SomeStands (c : Chunk) (k : ℕ) : Type 0 where
   pub index : ℕ
   pub stands : Stands c index k

@@ -1,6 +1,7 @@
 // EKO tables: the record of a pc (document 01, "Chunks and records").
 // A part is a slice of bytes with the address of its first one, its base, which may be any number. Offsets count from the
-// part's first byte. `lookup_part` searches any part; `lookup_arch` and `chunk_of` take what is lent, and refuse with 28 first.
+// part's first byte. `lookup_part` searches any part. `lookup_arch` and `chunk_of` take what is lent: `lookup_arch` refuses with 28
+// first, and `chunk_of`, which has to return a part, gives the empty part wherever `lookup_arch` finds no record.
 ghost use mathlib.Core.Path.{_≡_};
 ghost use Prim.Native.Nat.{_+_, _^_, _<_, _≤_};
 ghost use Rattle.failure.specs.Choice.{if_then_else_};
@@ -16,34 +17,41 @@ ghost use Rattle.lookup.specs.Lookup.{looked, lookup, lookupArch, search
 use mem::opening;
 use mem::wrapping;
 
+// The first word of a chunk.
 pub const MAGIC: u32 = 0x5755_4b45;
 
+// The version whose records have a frame word.
 pub const VERSION: u8 = 1;
 
+// The version whose records have a state program.
 pub const VERSION2: u8 = 2;
 
+// The flags of a chunk.
 pub const FLAG_RUST_PERSONALITY: u32 = 1;
 
+// The bytes of a header.
 pub const HEADER: usize = 16;
 
+// The bytes of a version 1 record.
 pub const RECORD: usize = 16;
 
+// The bytes of a version 2 record.
 pub const RECORD2: usize = 12;
 
-// Version 2 record data word, bit 31: a row table follows the program.
+// Added to the program offset of a version 2 record that has a row table after its program.
 pub const DATA_HANDLERS: u32 = 0x8000_0000;
 
-// One decoded function record.
+// The record of a function, with addresses in the place of its offsets.
 #[repr(C)]
 pub struct Record {
     pub start: usize,
     pub end: usize,
     pub frame: u32,
-    // Address of the row table, 0 where there is none. Version 2: of the program that it follows.
+    // Where its row table stands, 0 for none; in version 2 the address of the program, which the table comes after.
     pub handlers: usize,
-    // Version 2: address of the state program, 0 where there is none. Version 1: 0.
+    // Where its state program stands, 0 for none and in version 1.
     pub program: usize,
-    // Version 2: the chunk's end. Version 1: 0.
+    // The end of its chunk, which program and rows stay below; 0 in version 1.
     pub limit: usize,
     pub version: u8,
 }
@@ -369,7 +377,7 @@ fn right_meets(part: &[u8], base: usize, c: Chunk, k: usize, end: usize) -> bool
     start_at(part, base, next) < end
 }
 
-// The record at offset k of a chunk, where halving ended, if its neighbours leave it alone and it holds pc.
+// The record at offset k of a chunk, where halving ended, if its neighbours do not overlap it and it holds pc.
 fn settle(part: &[u8], base: usize, c: Chunk, pc: usize, k: usize) -> Searched
     requires { ⌜ Inside (now part) c × Stands c (halved (now part) base c pc) k ⌝ }
     ensures { λ r. ⌜
@@ -432,8 +440,8 @@ fn bad_record(r: Record) -> bool
     r.program == 0
 }
 
-// The place of the record at offset k of a chunk, if it passes the test for 18.
-fn place_of(part: &[u8], base: usize, c: Chunk, k: usize) -> Place
+// The record at offset k of a chunk, tested for 18: its place, or the refusal.
+fn place_tested(part: &[u8], base: usize, c: Chunk, k: usize) -> Place
     requires { ⌜ Inside (now part) c × SomeStands c k × (c ≡ Header.chunkAt (now part) (c .offset)) ⌝ }
     ensures { λ r. ⌜
         (placed (now (part .entry)) base r ≡ answerOr c (Answer none) (some (recordIn (now (part .entry)) base c k)))
@@ -464,7 +472,7 @@ fn find(part: &[u8], base: usize, pc: usize, arch: u8) -> Place
             Head::Here(c) => {
                 match search_in(part, base, c, pc) {
                     Searched::Held(at) => {
-                        return place_of(part, base, c, at);
+                        return place_tested(part, base, c, at);
                     }
                     Searched::NotHeld => {
                         k = k + c.size;
@@ -503,7 +511,7 @@ pub fn lookup_part(part: &[u8], base: usize, pc: usize, arch: u8) -> Lookup
     found(part, base, find(part, base, pc, arch))
 }
 
-// The record of pc in the section that is lent.
+// The record of pc in the section that is lent; without a call of `lookup_part`, whose answer would go through memory.
 pub fn lookup_arch(
     section: &[u8],
     section_base: usize,
@@ -526,7 +534,8 @@ pub fn lookup_arch(
     found(section, section_base, find(section, section_base, pc, arch))
 }
 
-// The chunk of the record of pc, as a part of the section; where none is found, the empty part at 0.
+// The chunk of the record of pc, as a part of the section of 16 bytes at least. Where `lookup_arch` finds none or refuses, it is the
+// empty part at 0, and `lookup_arch` has the number.
 pub fn chunk_of<'a>(
     section: &'a [u8],
     section_base: usize,

@@ -1,18 +1,19 @@
 -- What a part that was returned for the n bytes at an address says of the number there, over the width. Assumes nothing.
-use mathlib.Core.Path.{_≡_, sym, ap}
+use mathlib.Core.Path.{_≡_, refl, _∙_, ap}
 use mathlib.Core.Logic.{⊎-elim}
 use mathlib.Core.List.{List}
 use Prim.Native.Nat.{ℕ, _<_, _^_}
 use native.Mathlib.Omega.{arith}
 use lib.ListN.{length}
 use denote.Ref.{RefT}
+use borrow.Author.Tests.{eq-eqb, ne-eqb}
 use Rattle.failure.specs.Outcome.{Refused, Answer}
 use Rattle.failure.specs.Failure.{OutsideMemory}
 use Rattle.mem.specs.Memory.{Memory, lent}
 use Rattle.mem.specs.Place.{placeOf, bytesAt}
 use Rattle.mem.specs.Part.{PartOf}
-use Rattle.mem.specs.Word.{littleEndian, load, loadSigned, Loaded}
-use Rattle.mem.specs.Wrapping.{signed32}
+use Rattle.mem.specs.Word.{littleEndian, load, loaded, wordIn, Below, Loaded}
+use Rattle.mem.specs.declared.load.Word.{Word}
 use Rattle.mem.specs.declared.load.Word.the-variants.{Value, Outside}
 use Rattle.mem.proofs.Part.{part-shows}
 
@@ -25,6 +26,15 @@ load-there m a n v bs e p = rw e (ap Answer p)
 load-nowhere : (m : Memory) (a n : ℕ) → bytesAt m a n ≡ Refused OutsideMemory → Refused OutsideMemory ≡ load m n a
 unfolding load
 load-nowhere m a n e = rw e
+
+-- the number in so many bytes, and in any other count of them
+word-whole : (n : ℕ) (bs : List ℕ) → length bs ≡ n → wordIn n bs ≡ Answer (littleEndian bs)
+unfolding wordIn
+word-whole n bs e = rw (eq-eqb _ _ e)
+
+word-part : (n : ℕ) (bs : List ℕ) → (length bs ≡ n → ⊥) → wordIn n bs ≡ Refused OutsideMemory
+unfolding wordIn
+word-part n bs e = rw (ne-eqb _ _ e)
 
 module _ (section stack : RefT (List ℕ)) (sectionBase stackBase a n : ℕ) (r : RefT (List ℕ)) (some : 0 < n) where
   -- a whole part gives the number
@@ -52,11 +62,16 @@ module _ (section stack : RefT (List ℕ)) (sectionBase stackBase a n : ℕ) (r 
         fits = tt;
       }
 
--- the signed number at an address is that of the word there
-pub signed-value : (m : Memory) (a w s : ℕ) → Answer w ≡ load m 4 a → s ≡ signed32 w → Answer s ≡ loadSigned m a
-unfolding loadSigned
-signed-value m a w s e p = rw (sym e) (ap Answer p)
-
-pub signed-outside : (m : Memory) (a : ℕ) → Refused OutsideMemory ≡ load m 4 a → Refused OutsideMemory ≡ loadSigned m a
-unfolding loadSigned
-signed-outside m a e = rw (sym e)
+  -- the number in a part, if it is whole
+  pub loads-word :
+      PartOf section stack n (placeOf (lent (section .now) sectionBase (stack .now) stackBase .regions) a n) r →
+      (w : Word) → (loaded w ≡ wordIn n (r .now)) × Below (256 ^ n) w →
+      Loaded (lent (section .now) sectionBase (stack .now) stackBase .regions) n a w
+  loads-word p w is =
+      record {
+        outcome =
+            ⊎-elim (λ s. is .0 ∙ word-whole n (r .now) (s .0) ∙ load-there _ a n (littleEndian (r .now)) (r .now) (s .1) refl)
+            (λ s. is .0 ∙ word-part n (r .now) (λ e. omega (arith, s .0)) ∙ load-nowhere _ a n (s .1))
+            (part-shows section stack sectionBase stackBase a n r some p);
+        fits = is .1;
+      }

@@ -9,7 +9,6 @@ use Rattle.failure.specs.Outcome.{Outcome, Refused, Answer, _>>=_}
 use Rattle.failure.specs.Failure.{OutsideMemory}
 use Rattle.mem.specs.Memory.{Memory}
 use Rattle.mem.specs.Place.{bytesAt}
-use Rattle.mem.specs.Wrapping.{signed32}
 use Rattle.mem.specs.declared.load.Word.{Word}
 use Rattle.mem.specs.declared.load.Word.the-variants.{Value, Outside}
 
@@ -27,12 +26,6 @@ load m n a = do
 -- the number in n bytes; 27 for any other count of them
 unfoldable pub wordIn : ℕ → List ℕ → Outcome ℕ
 wordIn n bs = if eqb (length bs) n then Answer (littleEndian bs) else Refused OutsideMemory
-
--- the signed number in the 4 bytes at address a, modulo 2^64, or 27
-unfoldable pub loadSigned : Memory → ℕ → Outcome ℕ
-loadSigned m a = do
-  w ← load m 4 a
-  Answer (signed32 w)
 
 -- document 01's number and values for each case of a Word
 abbrev pub loaded : Word → Outcome ℕ

@@ -5,8 +5,7 @@ ghost use lib.ListN.{length};
 ghost use Rattle.mem.specs.Memory.{lent};
 ghost use Rattle.mem.specs.Place.{holds, placed, placeOf};
 ghost use Rattle.mem.specs.Part.{PartOf};
-ghost use Rattle.mem.specs.Word.{littleEndian, loaded, wordIn, loadSigned, Loaded};
-use crate::wrapping;
+ghost use Rattle.mem.specs.Word.{littleEndian, loaded, wordIn, Below, Loaded};
 
 // Where bytes stand: an offset in the section or in the stack.
 pub enum Place {
@@ -100,14 +99,6 @@ fn le1(b: &[u8]) -> usize
     wide(b[0])
 }
 
-// The number in two bytes.
-fn le2(b: &[u8]) -> usize
-    requires { ⌜ length (now b) ≡ 2 ⌝ }
-    ensures { λ r. ⌜ (r ≡ littleEndian (now (b .entry))) × (r < 256 ^ 2) ⌝ }
-{
-    wide(b[0]) + 0x100 * wide(b[1])
-}
-
 // The number in four bytes.
 fn le4(b: &[u8]) -> usize
     requires { ⌜ length (now b) ≡ 4 ⌝ }
@@ -133,7 +124,7 @@ fn le8(b: &[u8]) -> usize
 
 // The u64 in eight bytes; 27 for any other count of them.
 pub fn u64_in(b: &[u8]) -> Word
-    ensures { λ r. ⌜ loaded r ≡ wordIn 8 (now (b .entry)) ⌝ }
+    ensures { λ r. ⌜ (loaded r ≡ wordIn 8 (now (b .entry))) × Below (256 ^ 8) r ⌝ }
 {
     if b.len() == 8 {
         return Word::Value(le8(b));
@@ -156,25 +147,6 @@ pub fn load_u8<'a>(
     let b = bytes_at(section, section_base, stack, stack_base, a, 1);
     if b.len() == 1 {
         return Word::Value(le1(b));
-    }
-    Word::Outside
-}
-
-// The u16 at address a.
-pub fn load_u16<'a>(
-    section: &'a [u8],
-    section_base: usize,
-    stack: &'a [u8],
-    stack_base: usize,
-    a: usize,
-) -> Word
-    ensures { λ r. ⌜
-        Loaded (lent (now (section .entry)) «section_base» (now (stack .entry)) «stack_base» .regions) 2 a r
-        ⌝ }
-{
-    let b = bytes_at(section, section_base, stack, stack_base, a, 2);
-    if b.len() == 2 {
-        return Word::Value(le2(b));
     }
     Word::Outside
 }
@@ -211,27 +183,5 @@ pub fn load_u64<'a>(
         ⌝ }
 {
     let b = bytes_at(section, section_base, stack, stack_base, a, 8);
-    if b.len() == 8 {
-        return Word::Value(le8(b));
-    }
-    Word::Outside
-}
-
-// The i32 at address a, as a number modulo 2^64.
-pub fn load_i32<'a>(
-    section: &'a [u8],
-    section_base: usize,
-    stack: &'a [u8],
-    stack_base: usize,
-    a: usize,
-) -> Word
-    ensures { λ r. ⌜
-        loaded r ≡
-        loadSigned (lent (now (section .entry)) «section_base» (now (stack .entry)) «stack_base» .regions) a
-        ⌝ }
-{
-    match load_u32(section, section_base, stack, stack_base, a) {
-        Word::Value(v) => Word::Value(wrapping::extend(v as u32)),
-        Word::Outside => Word::Outside,
-    }
+    u64_in(b)
 }

@@ -13,7 +13,7 @@ use Rattle.leb.proofs.Reader.{byte-read, byte-limit}
 use Rattle.program.specs.declared.decode.Rule.the-variants as rule
 use Rattle.program.specs.declared.decode.Op.{Op}
 use Rattle.program.specs.declared.decode.Op.the-variants.{Set}
-use Rattle.program.specs.declared.decode.One.{One}
+use Rattle.program.specs.declared.decode.Incomplete.{Incomplete}
 use Rattle.program.specs.declared.decode.Form.{Form}
 use Rattle.program.specs.declared.decode.Form.the-variants.{Whole, WithNumber, WithPair, Unknown}
 use Rattle.program.specs.Operation.{formOf, completed, Decoding, restAt, decode}
@@ -43,13 +43,13 @@ module _ (m : Memory) (limit pos : ℕ) where
 
     -- an operation that a number completes
     pub rest-number :
-        (o : One) → f ≡ WithNumber o → (n next : ℕ) (op : Op) →
+        (o : Incomplete) → f ≡ WithNumber o → (n next : ℕ) (op : Op) →
         Answer (record { value = n; next = next }) ≡ numbered (ulebAt m limit pos) → op ≡ completed o n →
         Answer (record { op = op; next = next }) ≡ restAt m limit pos f
     rest-number o p n next op e q = rw p (rw (sym e, q))
 
     pub rest-number-refused :
-        (o : One) → f ≡ WithNumber o → (x : ℕ) → Refused x ≡ numbered (ulebAt m limit pos) → Refused x ≡ restAt m limit pos f
+        (o : Incomplete) → f ≡ WithNumber o → (x : ℕ) → Refused x ≡ numbered (ulebAt m limit pos) → Refused x ≡ restAt m limit pos f
     rest-number-refused o p x e = rw p (rw (sym e))
 
     -- a register and a slot

@@ -7,7 +7,7 @@ use borrow.Author.Tests.{lt-ltb, le-ltb, ne-eqb}
 use Rattle.failure.specs.Choice.{if_then_else_}
 use Rattle.program.specs.declared.decode.Rule.the-variants as rule
 use Rattle.program.specs.declared.decode.Op.the-variants.{Advance, Set}
-use Rattle.program.specs.declared.decode.One.the-variants as one
+use Rattle.program.specs.declared.decode.Incomplete.the-variants as incomplete
 use Rattle.program.specs.declared.decode.Form.the-variants.{Whole, WithNumber, Unknown}
 use Rattle.program.specs.Operation.{formOf}
 
@@ -25,7 +25,7 @@ module _ (code : ℕ) where
     unfolding formOf
     form-units l h = simp (ne-eqb code 0 some, le-ltb code 0x40 l, lt-ltb code 0x80 h)
 
-    pub form-save : 0x80 ≤ code → code < 0xc0 → WithNumber (one.Save (code - 0x80)) ≡ formOf code
+    pub form-save : 0x80 ≤ code → code < 0xc0 → WithNumber (incomplete.Save (code - 0x80)) ≡ formOf code
     unfolding formOf
     form-save l h = simp (ne-eqb code 0 some, le-ltb code 0x40 (omega arith), le-ltb code 0x80 l, lt-ltb code 0xc0 h)
 

@@ -14,7 +14,7 @@ use Rattle.leb.specs.declared.Byte.the-variants as byte
 use Rattle.leb.specs.Reader.{byteAt}
 use Rattle.leb.proofs.Reader.{byte-loaded}
 use Rattle.program.specs.declared.decode.Op.{Op}
-use Rattle.program.specs.declared.decode.One.{One}
+use Rattle.program.specs.declared.decode.Incomplete.{Incomplete}
 use Rattle.program.specs.declared.decode.Form.{Form}
 use Rattle.program.specs.declared.decode.Form.the-variants.{Whole, WithNumber}
 use Rattle.program.specs.Operation.{formOf, completed, decode}
@@ -52,7 +52,7 @@ module _ (m : Memory) (limit pos b : ℕ) (f : Form) (e : byte.Is b ≡ byteAt m
 
   -- one with a number of one byte
   pub near-number :
-      (o : One) → f ≡ WithNumber o → (n : ℕ) → byte.Is n ≡ byteAt m limit (pos + 1) → n < 128 → (op : Op) → op ≡ completed o n →
+      (o : Incomplete) → f ≡ WithNumber o → (n : ℕ) → byte.Is n ≡ byteAt m limit (pos + 1) → n < 128 → (op : Op) → op ≡ completed o n →
       Answer (record { op = op; next = pos + 1 + 1 }) ≡ decode m limit pos
   near-number o q n g h op r =
       rest-number m limit (pos + 1) f o q n (pos + 1 + 1) op (short-number m limit (pos + 1) n g h) r ∙ decode-byte m limit pos b f e p

@@ -38,7 +38,7 @@ abbrev pub followedBy : Status → State → Outcome State
 followedBy status.Done st = Answer st
 followedBy (status.Refused n) st = Outcome.Refused n
 
--- whose pairs are in place
+-- the next state, whose pairs are in place
 abbrev pub followed : Followed → List ℕ → List ℕ → Outcome State
 followed f regs slots = followedBy (f .status) (stateOf (f .fp) (f .units) (f .count) regs slots)
 
@@ -75,11 +75,11 @@ through entry x y =
       after = ended entry y .after;
     }
 
--- two runs that both give this
+-- two runs that were not refused: the state of the first, the after-address of the second
 abbrev pub finished : State → ℕ → Through
 finished st after = record { status = status.Done; state = st; end = status.Done; after = after }
 
--- a second run that was refused, after the first had ended or before
+-- two runs, the second of which was refused, after the first had ended or before
 abbrev pub stopped : Bool → State → ℕ → Through
 stopped true st n = record { status = status.Done; state = st; end = status.Refused n; after = 0 }
 stopped false st n = record { status = status.Refused n; state = st; end = status.Refused n; after = 0 }

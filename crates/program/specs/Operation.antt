@@ -9,8 +9,8 @@ use Rattle.leb.specs.Reader.{byteAt, ulebAt, numbered, numberedByte}
 use Rattle.program.specs.declared.decode.Rule.the-variants as rule
 use Rattle.program.specs.declared.decode.Op.{Op}
 use Rattle.program.specs.declared.decode.Op.the-variants.{End, Advance, Set, Remember, Recall}
-use Rattle.program.specs.declared.decode.One.{One}
-use Rattle.program.specs.declared.decode.One.the-variants as one
+use Rattle.program.specs.declared.decode.Incomplete.{Incomplete}
+use Rattle.program.specs.declared.decode.Incomplete.the-variants as incomplete
 use Rattle.program.specs.declared.decode.Form.{Form}
 use Rattle.program.specs.declared.decode.Form.the-variants.{Whole, WithNumber, WithPair, Unknown}
 
@@ -20,13 +20,13 @@ formOf code =
     if eqb code 0x00 then Whole End
     else if ltb code 0x40 then Whole (Advance code)
     else if ltb code 0x80 then Whole (Set (rule.Units (code - 0x40)))
-    else if ltb code 0xc0 then WithNumber (one.Save (code - 0x80))
-    else if eqb code 0xc0 then WithNumber one.Sp
-    else if eqb code 0xc1 then WithNumber one.Fp
-    else if eqb code 0xc2 then WithNumber one.Units
-    else if eqb code 0xc3 then WithNumber one.Advance
+    else if ltb code 0xc0 then WithNumber (incomplete.Save (code - 0x80))
+    else if eqb code 0xc0 then WithNumber incomplete.Sp
+    else if eqb code 0xc1 then WithNumber incomplete.Fp
+    else if eqb code 0xc2 then WithNumber incomplete.Units
+    else if eqb code 0xc3 then WithNumber incomplete.Advance
     else if eqb code 0xc4 then WithPair
-    else if eqb code 0xc5 then WithNumber one.Restore
+    else if eqb code 0xc5 then WithNumber incomplete.Restore
     else if eqb code 0xc6 then Whole (Set rule.Entry)
     else if eqb code 0xc7 then Whole Remember
     else if eqb code 0xc8 then Whole Recall
@@ -36,13 +36,13 @@ formOf code =
     else Whole (Set (rule.Restore (code - 0xe0)))
 
 -- the operation that a number completes
-abbrev pub completed : One → ℕ → Op
-completed (one.Save reg) n = Set (rule.Save reg n)
-completed one.Sp n = Set (rule.Sp n)
-completed one.Fp n = Set (rule.Fp n)
-completed one.Units n = Set (rule.Units n)
-completed one.Advance n = Advance n
-completed one.Restore n = Set (rule.Restore n)
+abbrev pub completed : Incomplete → ℕ → Op
+completed (incomplete.Save reg) n = Set (rule.Save reg n)
+completed incomplete.Sp n = Set (rule.Sp n)
+completed incomplete.Fp n = Set (rule.Fp n)
+completed incomplete.Units n = Set (rule.Units n)
+completed incomplete.Advance n = Advance n
+completed incomplete.Restore n = Set (rule.Restore n)
 
 -- an operation and the address after it
 pub record Decoding : Type 0 where

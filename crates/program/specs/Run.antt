@@ -74,7 +74,8 @@ turned (On s) f = f s
 turned (Ends r) f = Answer r
 turned (Refused n) f = Outcome.Refused n
 
--- the operations from pos on, with so many bytes left below the limit; each takes one at least, and where none is left it is 18
+-- the operations from pos on, with at most so many bytes left below the limit; each takes one at least, and where none is left it
+-- is 18
 abbrev pub runFrom : ℕ → Memory → Arch → ℕ → ℕ → ℕ → Stand → Outcome Ran
 runFrom zero m a limit off pos s = Outcome.Refused BadEkoRecord
 runFrom (suc left) m a limit off pos s = do

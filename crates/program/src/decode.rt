@@ -34,8 +34,8 @@ pub enum Op {
     Recall,
 }
 
-// An operation that lacks its last number.
-pub enum One {
+// An operation that a number is still to complete.
+pub enum Incomplete {
     Save(u32),
     Sp,
     Fp,
@@ -47,7 +47,7 @@ pub enum One {
 // What a first byte says: an operation, one that a number completes, a register and a slot to come, or no operation.
 pub enum Form {
     Whole(Op),
-    WithNumber(One),
+    WithNumber(Incomplete),
     WithPair,
     Unknown,
 }
@@ -70,12 +70,12 @@ fn form_named(code: u8) -> Form
     ensures { λ r. ⌜ r ≡ Operation.formOf code ⌝ }
 {
     match code {
-        0xc0 => Form::WithNumber(One::Sp),
-        0xc1 => Form::WithNumber(One::Fp),
-        0xc2 => Form::WithNumber(One::Units),
-        0xc3 => Form::WithNumber(One::Advance),
+        0xc0 => Form::WithNumber(Incomplete::Sp),
+        0xc1 => Form::WithNumber(Incomplete::Fp),
+        0xc2 => Form::WithNumber(Incomplete::Units),
+        0xc3 => Form::WithNumber(Incomplete::Advance),
         0xc4 => Form::WithPair,
-        0xc5 => Form::WithNumber(One::Restore),
+        0xc5 => Form::WithNumber(Incomplete::Restore),
         0xc6 => Form::Whole(Op::Set(Rule::Entry)),
         0xc7 => Form::Whole(Op::Remember),
         0xc8 => Form::Whole(Op::Recall),
@@ -100,7 +100,7 @@ pub fn form_of(code: u8) -> Form
         return Form::Whole(Op::Set(Rule::Units(n - 0x40)));
     }
     if code < 0xc0 {
-        return Form::WithNumber(One::Save(n - 0x80));
+        return Form::WithNumber(Incomplete::Save(n - 0x80));
     }
     if code < 0xe0 {
         return form_named(code);
@@ -109,16 +109,16 @@ pub fn form_of(code: u8) -> Form
 }
 
 // The operation that a number completes.
-pub fn completed(o: One, n: u32) -> Op
+pub fn completed(o: Incomplete, n: u32) -> Op
     ensures { λ r. ⌜ r ≡ Operation.completed o n ⌝ }
 {
     match o {
-        One::Save(reg) => Op::Set(Rule::Save(reg, n)),
-        One::Sp => Op::Set(Rule::Sp(n)),
-        One::Fp => Op::Set(Rule::Fp(n)),
-        One::Units => Op::Set(Rule::Units(n)),
-        One::Advance => Op::Advance(n),
-        One::Restore => Op::Set(Rule::Restore(n)),
+        Incomplete::Save(reg) => Op::Set(Rule::Save(reg, n)),
+        Incomplete::Sp => Op::Set(Rule::Sp(n)),
+        Incomplete::Fp => Op::Set(Rule::Fp(n)),
+        Incomplete::Units => Op::Set(Rule::Units(n)),
+        Incomplete::Advance => Op::Advance(n),
+        Incomplete::Restore => Op::Set(Rule::Restore(n)),
     }
 }
 
@@ -142,7 +142,7 @@ fn long_number_at<'a>(
     }
 }
 
-// The number at a position below the limit; one byte is read at once.
+// The number at a position below the limit: a number of one byte is answered here; any other is read again from its first byte.
 pub fn number_at<'a>(
     section: &'a [u8],
     section_base: usize,

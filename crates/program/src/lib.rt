@@ -33,10 +33,9 @@ use failure::BAD_OPENING;
 use failure::REMEMBER_STACK_OVERFLOW;
 use mem::opening;
 use state::Counted;
-use state::MAX_SAVED;
 use state::State;
 use state::at_entry;
-use state::drop_in;
+use state::restore_in;
 use state::save_in;
 
 pub mod decode;
@@ -58,7 +57,7 @@ struct Followed {
     count: usize,
 }
 
-// What a run gives: the state at the offset and, if END was read, the address after it, else 0. For a refusal they are the
+// What a run gives: the state at the offset, and the after-address, which is not 0 only where END was read. A refused run has the
 // entry state and 0.
 pub struct Ended {
     pub status: Status,
@@ -162,33 +161,7 @@ fn restore<'a, 'b>(
         changed (Restore.restore (numbers arch) (stateOf fp units count (now (regs .entry)) (now (slots .entry))) reg)
         ⌝ }
 {
-    let a = numbers(arch);
-    if MAX_SAVED < count {
-        return Followed {
-            status: Status::Refused(BAD_OPENING),
-            fp,
-            units,
-            count,
-        };
-    }
-    let left = drop_in(regs, slots, count, reg);
-    if reg != a.ra as usize {
-        return Followed {
-            status: Status::Done,
-            fp,
-            units,
-            count: left,
-        };
-    }
-    if a.entry_ra_slot == 0 {
-        return Followed {
-            status: Status::Done,
-            fp,
-            units,
-            count: left,
-        };
-    }
-    save(regs, slots, left, fp, units, reg, a.entry_ra_slot as usize)
+    folded(restore_in(regs, slots, count, arch, reg), fp, units)
 }
 
 // fp saved at 2, then the return register at 1.
@@ -402,7 +375,7 @@ fn act<'a, 'b>(
     }
 }
 
-// What a run gives that ended with a state, at both offsets.
+// Two runs that were not refused: the state of the first, the after-address of the second.
 fn done(state: State, after: usize) -> Through
     ensures { λ r. ⌜ r ≡ finished state after ⌝ }
 {
@@ -414,7 +387,7 @@ fn done(state: State, after: usize) -> Through
     }
 }
 
-// What a run gives that was refused, past the first offset or not.
+// Two runs, the second of which was refused: past the first offset, where the first had ended with the kept state, or before it.
 fn refused(kept: State, passed: bool, n: u32) -> Through
     ensures { λ r. ⌜ r ≡ stopped passed kept n ⌝ }
 {
@@ -434,7 +407,7 @@ fn refused(kept: State, passed: bool, n: u32) -> Through
     }
 }
 
-// The end of the bytes from the program on that surely lie in the section and below the limit; 0 where none does.
+// An address: the bytes from the program up to it, if there are any, surely lie in the section and below the limit.
 fn near_end(section: &[u8], base: usize, program: usize, limit: usize) -> usize
     ensures { λ r. ⌜ Near (now (section .entry)) base limit program r ⌝ }
 {
@@ -451,7 +424,7 @@ fn near_end(section: &[u8], base: usize, program: usize, limit: usize) -> usize
     limit
 }
 
-// An operation that `decode` read, taken out of memory: what `operation_at` reads itself then needs none to pass through.
+// An operation that `decode` read, rebuilt case by case, so that the compiler keeps the result of `operation_at` in registers.
 fn again(d: Decoded) -> Decoded
     ensures { λ r. ⌜ decoded r ≡ decoded d ⌝ }
 {

@@ -28,7 +28,7 @@ use Rattle.lookup.specs.Record.{startAt, endAt, addressOf, handlersOf, recordAt
 use Rattle.lookup.specs.Tables.{chunksFrom, chunks, records}
 use Rattle.lookup.specs.Search as Lookup
 use Rattle.lookup.specs.Search.{halve, leftMeets, rightMeets, settle}
-use Rattle.lookup.specs.Lookup.{gate, searchIn, lookup}
+use Rattle.lookup.specs.Lookup.{inRange, searchIn, lookup}
 use Rattle.lookup.proofs.Tested.{soundTest}
 use Rattle.personality.specs.Reason as Reason
 use Rattle.personality.specs.Reason.{rowless, rowAfter, installed, searchedCode}
@@ -59,7 +59,7 @@ x86-fresh = fresh-tested X86.start refl refl refl refl refl refl
 
 -- every story holds
 pub aarch64-stories : Holds Aarch64.caught × Holds Aarch64.terminated × Holds Aarch64.uncaught × Holds Aarch64.atEntry
-unfolding bounded apart opens Place.holds bytesAt load byteAt ulebAt numbers isKnown columnOf get set overfull entry save formOf decode frameRegs follow act run savedPairs fpPair raSlot badFp loadSlot applyAt apply pastTable leafCfa fpCfa spCfa frameCfa returnAddress setReturn setFrame setCaller stepAt Step.step readAs passes valid checked entryAt leftBreaks rightBreaks judged handler nextDelta matched handler2 rowsOf word stride chunkAt faulty headAt startAt endAt addressOf handlersOf recordAt recordAt2 recordOf holds badRecord chunksFrom chunks records halve leftMeets rightMeets settle Lookup.search gate searchIn lookup soundTest rowless rowAfter installed searchedCode Reason.rowOf callerFile notAdvancing past frameStep search installPad clean opened raise resume column isRegister value inside meet put written layoutAt samePairs goodFp fits described pushes calling keptBy newFrame notSpNorPc callAllowed entered spillAllowed changeAllowed reloadAllowed writeAllowed throwAllowed rows1 rows2 rowsIn rowOf wholeTable goodTable goodFrame padOf outcome due answerOf current raisedBy unwindingOf
+unfolding bounded apart opens Place.holds bytesAt load byteAt ulebAt numbers isKnown columnOf get set overfull entry save formOf decode frameRegs follow act run savedPairs fpPair raSlot badFp loadSlot applyAt apply pastTable leafCfa fpCfa spCfa frameCfa returnAddress setReturn setFrame setCaller stepAt Step.step readAs passes valid checked entryAt leftBreaks rightBreaks judged handler nextDelta matched handler2 rowsOf word stride chunkAt faulty headAt startAt endAt addressOf handlersOf recordAt recordAt2 recordOf holds badRecord chunksFrom chunks records halve leftMeets rightMeets settle Lookup.search inRange searchIn lookup soundTest rowless rowAfter installed searchedCode Reason.rowOf callerFile notAdvancing past frameStep search installPad clean opened raise resume column isRegister value inside meet put written layoutAt samePairs goodFp fits described pushes calling keptBy newFrame notSpNorPc callAllowed entered spillAllowed changeAllowed reloadAllowed writeAllowed throwAllowed rows1 rows2 rowsIn rowOf wholeTable goodTable goodFrame padOf outcome due answerOf current raisedBy unwindingOf
 aarch64-stories = (
   holds-reported Aarch64.caught aarch64-fresh refl (λ exception. refl),
   holds-reported Aarch64.terminated aarch64-fresh refl (λ exception. refl),
@@ -68,7 +68,7 @@ aarch64-stories = (
 )
 
 pub x86-stories : Holds X86.caught × Holds X86.terminated × Holds X86.uncaught × Holds X86.inLeaf
-unfolding bounded apart opens Place.holds bytesAt load byteAt ulebAt numbers isKnown columnOf get set overfull entry save formOf decode frameRegs follow act run savedPairs fpPair raSlot badFp loadSlot applyAt apply pastTable leafCfa fpCfa spCfa frameCfa returnAddress setReturn setFrame setCaller stepAt Step.step readAs passes valid checked entryAt leftBreaks rightBreaks judged handler nextDelta matched handler2 rowsOf word stride chunkAt faulty headAt startAt endAt addressOf handlersOf recordAt recordAt2 recordOf holds badRecord chunksFrom chunks records halve leftMeets rightMeets settle Lookup.search gate searchIn lookup soundTest rowless rowAfter installed searchedCode Reason.rowOf callerFile notAdvancing past frameStep search installPad clean opened raise resume column isRegister value inside meet put written layoutAt samePairs goodFp fits described pushes calling keptBy newFrame notSpNorPc callAllowed entered spillAllowed changeAllowed reloadAllowed writeAllowed throwAllowed rows1 rows2 rowsIn rowOf wholeTable goodTable goodFrame padOf outcome due answerOf current raisedBy unwindingOf
+unfolding bounded apart opens Place.holds bytesAt load byteAt ulebAt numbers isKnown columnOf get set overfull entry save formOf decode frameRegs follow act run savedPairs fpPair raSlot badFp loadSlot applyAt apply pastTable leafCfa fpCfa spCfa frameCfa returnAddress setReturn setFrame setCaller stepAt Step.step readAs passes valid checked entryAt leftBreaks rightBreaks judged handler nextDelta matched handler2 rowsOf word stride chunkAt faulty headAt startAt endAt addressOf handlersOf recordAt recordAt2 recordOf holds badRecord chunksFrom chunks records halve leftMeets rightMeets settle Lookup.search inRange searchIn lookup soundTest rowless rowAfter installed searchedCode Reason.rowOf callerFile notAdvancing past frameStep search installPad clean opened raise resume column isRegister value inside meet put written layoutAt samePairs goodFp fits described pushes calling keptBy newFrame notSpNorPc callAllowed entered spillAllowed changeAllowed reloadAllowed writeAllowed throwAllowed rows1 rows2 rowsIn rowOf wholeTable goodTable goodFrame padOf outcome due answerOf current raisedBy unwindingOf
 x86-stories = (
   holds-reported X86.caught x86-fresh refl (λ exception. refl),
   holds-reported X86.terminated x86-fresh refl (λ exception. refl),
@@ -78,5 +78,5 @@ x86-stories = (
 
 -- the events of the first story of each are within the rules or against them, as it tells
 pub told-right : (toldRight Aarch64.start (Aarch64.caught .told) ≡ true) × (toldRight X86.start (X86.caught .told) ≡ true)
-unfolding bounded apart opens Place.holds bytesAt load byteAt ulebAt numbers isKnown columnOf get set overfull entry save formOf decode frameRegs follow act run savedPairs fpPair raSlot badFp loadSlot applyAt apply pastTable leafCfa fpCfa spCfa frameCfa returnAddress setReturn setFrame setCaller stepAt Step.step readAs passes valid checked entryAt leftBreaks rightBreaks judged handler nextDelta matched handler2 rowsOf word stride chunkAt faulty headAt startAt endAt addressOf handlersOf recordAt recordAt2 recordOf holds badRecord chunksFrom chunks records halve leftMeets rightMeets settle Lookup.search gate searchIn lookup soundTest rowless rowAfter installed searchedCode Reason.rowOf callerFile notAdvancing past frameStep search installPad clean opened raise resume column isRegister value inside meet put written layoutAt samePairs goodFp fits described pushes calling keptBy newFrame notSpNorPc callAllowed entered spillAllowed changeAllowed reloadAllowed writeAllowed throwAllowed rows1 rows2 rowsIn rowOf wholeTable goodTable goodFrame padOf outcome due answerOf current raisedBy unwindingOf
+unfolding bounded apart opens Place.holds bytesAt load byteAt ulebAt numbers isKnown columnOf get set overfull entry save formOf decode frameRegs follow act run savedPairs fpPair raSlot badFp loadSlot applyAt apply pastTable leafCfa fpCfa spCfa frameCfa returnAddress setReturn setFrame setCaller stepAt Step.step readAs passes valid checked entryAt leftBreaks rightBreaks judged handler nextDelta matched handler2 rowsOf word stride chunkAt faulty headAt startAt endAt addressOf handlersOf recordAt recordAt2 recordOf holds badRecord chunksFrom chunks records halve leftMeets rightMeets settle Lookup.search inRange searchIn lookup soundTest rowless rowAfter installed searchedCode Reason.rowOf callerFile notAdvancing past frameStep search installPad clean opened raise resume column isRegister value inside meet put written layoutAt samePairs goodFp fits described pushes calling keptBy newFrame notSpNorPc callAllowed entered spillAllowed changeAllowed reloadAllowed writeAllowed throwAllowed rows1 rows2 rowsIn rowOf wholeTable goodTable goodFrame padOf outcome due answerOf current raisedBy unwindingOf
 told-right = (refl, refl)

@@ -1,26 +1,28 @@
--- Laws of `copyDown`, `dropped` and `restore`. Assumes nothing.
+-- Laws of `copyDown`, `without` and `restore`. Assumes nothing.
 use mathlib.Core.Path.{_≡_, refl, sym, _∙_, ap}
 use mathlib.Core.Bool.{Bool, true, false}
 use mathlib.Core.List.{List}
 use Prim.Native.Nat.{ℕ, zero, suc, _+_, _-_, _≤_, _<_}
 use native.Mathlib.Omega.{arith}
-use lib.Dec.{eqb}
+use lib.Dec.{eqb, lit≤}
 use lib.ListN.{length, getD, set, length-set}
 use lib.Seq.{getD-set-same, getD-set-other}
 use borrow.Author.Tests.{lt-ltb, le-ltb, eq-eqb, ne-eqb, eqb-true, eqb-false}
-use Rattle.arch.specs.Arch.{Arch}
+use Rattle.arch.specs.Arch.{Arch, numbers}
 use Rattle.arch.specs.Answers.{inCode}
 use Rattle.arch.specs.declared.Arch2.{Arch2}
+use Rattle.arch.proofs.Arch.{of-both}
 use Rattle.state.specs.declared.State.{State}
+use Rattle.state.specs.declared.Found.{Found}
 use Rattle.state.specs.declared.Found.the-variants.{At, Nowhere}
 use Rattle.state.specs.State.{maxSaved, stateOf, overfull}
 use Rattle.state.specs.Pairs.{placeOf}
-use Rattle.state.specs.declared.Status.{Status}
-use Rattle.state.specs.declared.Status.the-variants as status
 use Rattle.state.specs.declared.Next.{Next}
-use Rattle.state.specs.Save.{Change, Done, OutOfRange, Full, BadOpening, save}
+use Rattle.state.specs.Save.{Change, Done, OutOfRange, Full, BadOpening, withSlot, withPair, save}
 use Rattle.state.specs.Answers.{changed, next, told}
-use Rattle.state.specs.Restore.{copyDown, without, dropped, returnSaved, restore}
+use Rattle.state.specs.Restore.{copyDown, without, returnSaved, restore}
+use Rattle.state.proofs.Pairs.{place-below}
+use Rattle.state.proofs.Save.{save-again, save-new}
 
 one : (xs : List ℕ) (n k i : ℕ) → n ≡ suc k → copyDown n i xs ≡ copyDown k (i + 1) (set xs i (getD xs (i + 1) 0))
 one xs n k i p = rw p
@@ -39,25 +41,20 @@ copy-over xs last k h =
 
 -- a register whose pair is removed, and one that has none
 module _ (st : State) (reg : ℕ) where
-  pub dropped-overfull : maxSaved < st .count → st ≡ dropped st reg
-  unfolding dropped overfull
-  dropped-overfull h = simp (lt-ltb maxSaved (st .count) h)
+  pub without-at :
+      (i : ℕ) (regs slots : List ℕ) → placeOf st reg ≡ At i →
+      regs ≡ copyDown (st .count - 1 - i) i (st .regs) → slots ≡ copyDown (st .count - 1 - i) i (st .slots) →
+      stateOf (st .«cfa_fp») (st .«cfa_units») (st .count - 1) regs slots ≡ without st reg
+  unfolding without
+  without-at i regs slots e p q = rw (e, p, q)
 
-  module _ (fits : st .count ≤ maxSaved) where
-    pub dropped-at :
-        (i : ℕ) (regs slots : List ℕ) → placeOf st reg ≡ At i →
-        regs ≡ copyDown (st .count - 1 - i) i (st .regs) → slots ≡ copyDown (st .count - 1 - i) i (st .slots) →
-        stateOf (st .«cfa_fp») (st .«cfa_units») (st .count - 1) regs slots ≡ dropped st reg
-    unfolding dropped overfull without
-    dropped-at i regs slots e p q = simp (le-ltb maxSaved (st .count) fits) (rw (e, p, q))
+  pub without-none : placeOf st reg ≡ Nowhere → st ≡ without st reg
+  unfolding without
+  without-none e = rw e
 
-    pub dropped-none : placeOf st reg ≡ Nowhere → st ≡ dropped st reg
-    unfolding dropped overfull without
-    dropped-none e = simp (le-ltb maxSaved (st .count) fits) (rw e)
-
-    pub dropped-without : dropped st reg ≡ without st reg
-    unfolding dropped overfull
-    dropped-without = simp (le-ltb maxSaved (st .count) fits)
+  without-count : (i : ℕ) → placeOf st reg ≡ At i → without st reg .count ≡ st .count - 1
+  unfolding without
+  without-count i e = rw e
 
 -- what each test of a restore comes to, over the numbers of an architecture as the code holds them
 module _ (a : Arch) (r : Arch2) (same : r ≡ inCode a) (st : State) (reg : ℕ) where
@@ -65,10 +62,7 @@ module _ (a : Arch) (r : Arch2) (same : r ≡ inCode a) (st : State) (reg : ℕ)
   unfolding restore overfull
   restore-overfull h = simp (lt-ltb maxSaved (st .count) h)
 
-  module _ (fits : st .count ≤ maxSaved) (w : State) (drop : w ≡ dropped st reg) where
-    gone : w ≡ without st reg
-    gone = drop ∙ dropped-without st reg fits
-
+  module _ (fits : st .count ≤ maxSaved) (w : State) (gone : w ≡ without st reg) where
     -- any register but the return register
     pub restore-other : (reg ≡ r .ra → ⊥) → Done w ≡ restore a st reg
     unfolding restore overfull
@@ -107,26 +101,49 @@ next-told st x r e = ap told e ∙ same x
     same Full = refl
     same BadOpening = refl
 
--- a change as the code hands it back beside one state, and beside another: the answer is the same
-module _ (st w : State) (r : Next) where
-  pub beside-done : (x : Change) → r ≡ next w x → status.Done ≡ r .status → r ≡ next st x
-  beside-done (Done s) e p = e
-  beside-done OutOfRange e p =
-      let q : status.Done ≡ status.OutOfRange = p ∙ ap (λ (n : Next). n .status) e in
-      let z : _≡_ {A = ℕ} 0 1 = cc in absurd (omega arith)
-  beside-done Full e p =
-      let q : status.Done ≡ status.Full = p ∙ ap (λ (n : Next). n .status) e in
-      let z : _≡_ {A = ℕ} 0 1 = cc in absurd (omega arith)
-  beside-done BadOpening e p =
-      let q : status.Done ≡ status.BadOpening = p ∙ ap (λ (n : Next). n .status) e in
-      let z : _≡_ {A = ℕ} 0 1 = cc in absurd (omega arith)
+-- the numbers of both architectures are within what a save takes
+pub entry-small : (n : ℕ) → (numbers n .ra ≤ 65535) × (numbers n .entrySlot ≤ 65535)
+entry-small = of-both (λ (a : Arch). (a .ra ≤ 65535) × (a .entrySlot ≤ 65535)) (lit≤ tt, lit≤ tt) (lit≤ tt, lit≤ tt)
 
-  pub beside-refused :
-      (x : Change) (s : Status) → r ≡ next w x → s ≡ r .status → (s ≡ status.Done → ⊥) → record { status = s; state = st } ≡ next st x
-  beside-refused (Done y) s e p d = absurd (d (p ∙ ap (λ (n : Next). n .status) e))
-  beside-refused OutOfRange s e p d = ap (λ (t : Status). record { status = t; state = st }) (p ∙ ap (λ (n : Next). n .status) e)
-  beside-refused Full s e p d = ap (λ (t : Status). record { status = t; state = st }) (p ∙ ap (λ (n : Next). n .status) e)
-  beside-refused BadOpening s e p d = ap (λ (t : Status). record { status = t; state = st }) (p ∙ ap (λ (n : Next). n .status) e)
+module _ (n : ℕ) (r : Arch2) (same : r ≡ inCode (numbers n)) where
+  pub return-small : (reg : ℕ) → reg ≡ r .ra → reg ≤ 65535
+  return-small reg e =
+      let is : reg ≡ numbers n .ra = e ∙ ap (λ (x : Arch2). x .ra) same in
+      omega (arith, entry-small n .0)
+
+  pub slot-small : r .«entry_ra_slot» ≤ 65535
+  slot-small =
+      let is : r .«entry_ra_slot» ≡ numbers n .entrySlot = ap (λ (x : Arch2). x .«entry_ra_slot») same in
+      omega (arith, entry-small n .1)
+
+-- a register saved where its pair was removed: only a register that had no pair can be refused, and then nothing was removed
+module _
+    (st : State) (reg slot : ℕ) (fits : st .count ≤ maxSaved) (known : reg ≤ 65535) (some : slot ≡ 0 → ⊥) (low : slot ≤ 65535)
+    (w : State) (gone : w ≡ without st reg)
+  where
+    done : (x : Change) (y : State) → Done y ≡ x → next w x ≡ next st x
+    done x y e = rw (sym e)
+
+    pub saved-again : next w (save w reg slot) ≡ next st (save w reg slot)
+    saved-again = go (placeOf st reg) refl
+      where
+        go : (f : Found) → placeOf st reg ≡ f → next w (save w reg slot) ≡ next st (save w reg slot)
+        go Nowhere e = ap (λ (x : State). next x (save w reg slot)) (gone ∙ sym (without-none st reg e))
+        go (At i) e = room (placeOf w reg) refl
+          where
+            fewer : w .count < maxSaved
+            fewer =
+                let left : w .count ≡ st .count - 1 = ap (λ (x : State). x .count) gone ∙ without-count st reg i e in
+                omega (arith, place-below st reg i e)
+
+            fit : w .count ≤ maxSaved
+            fit = omega (arith, fewer)
+
+            room : (f : Found) → placeOf w reg ≡ f → next w (save w reg slot) ≡ next st (save w reg slot)
+            room (At j) p = done (save w reg slot) (withSlot w j slot) (save-again w reg slot fit some low known j p)
+            room Nowhere p =
+                let more : w .count ≡ maxSaved → ⊥ = λ q. omega (arith, fewer) in
+                done (save w reg slot) (withPair w reg slot) (save-new w reg slot fit some low known p more)
 
 -- what a copy leaves at each place: the numbers below it, and those copied
 pub copy-length : (n i : ℕ) (xs : List ℕ) → length (copyDown n i xs) ≡ length xs

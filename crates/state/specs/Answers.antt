@@ -50,7 +50,7 @@ changeBy status.OutOfRange st = OutOfRange
 changeBy status.Full st = Full
 changeBy status.BadOpening st = Save.BadOpening
 
--- and so what the code hands back
+-- document 01's number and value for what the code hands back
 abbrev pub told : Next → Outcome State
 told n = changed (changeBy (n .status) (n .state))
 

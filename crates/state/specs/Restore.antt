@@ -37,10 +37,6 @@ withoutAt st Nowhere = st
 unfoldable pub without : State → ℕ → State
 without st reg = withoutAt st (placeOf st reg)
 
--- the same, but a state that counts more than 32 pairs stays as it is
-unfoldable pub dropped : State → ℕ → State
-dropped st reg = if overfull st then st else without st reg
-
 -- the return address back in the slot that it has at entry, if it has one there
 unfoldable pub returnSaved : Arch → State → Change
 returnSaved a st = if eqb (a .entrySlot) 0 then Done st else save st (a .ra) (a .entrySlot)

@@ -1,7 +1,7 @@
-// Unwind states: ps-unwind's `State`, by value (document 01, "The state program"). `save_in` and `drop_in` change the pairs in
+// Unwind states: ps-unwind's `State`, by value (document 01, "The state program"). `save_in` and `restore_in` change the pairs in
 // place, and the methods stand on them.
-// `State::entry`, `State::restore` refuse an architecture other than 1 and 2 with 28. `at_entry` and `restore_by` are for the
-// crates above, which have tested the number: there any other stands for 2.
+// `State::entry`, `State::restore` refuse an architecture other than 1 and 2 with 28. `at_entry` and `restore_in` are for the crates
+// above, which have tested the number: there any other stands for 2. `save_in`, for them too, takes none.
 ghost use mathlib.Core.Path.{_≡_};
 ghost use mathlib.Core.Bool.{Bool};
 ghost use Prim.Native.Nat.{ℕ, _≤_, _<_, _-_};
@@ -19,8 +19,9 @@ use arch::numbers;
 // The most pairs that a state holds.
 pub const MAX_SAVED: usize = 32;
 
-// The unwind state at one instruction: CFA = (sp or fp) + 8 * cfa_units; each saved register is at CFA - 8 * slot.
-// The pairs are regs[i], slots[i] for i below count; what stands past the count is part of the state too.
+// What is known of a frame at one instruction: its base, how many units of 8 bytes the CFA lies above it, and where registers were
+// saved: regs[i] in slot slots[i], which is 8 * slots[i] bytes below the CFA, for i below count. What stands past the count is part
+// of the state too.
 #[repr(C)]
 pub struct State {
     pub cfa_fp: bool,
@@ -63,7 +64,7 @@ pub struct Counted {
     pub count: usize,
 }
 
-// A register or a slot as a number of the width that `save` and `restore` take.
+// A register as a number of the width that `seek` is given.
 fn wide(x: u16) -> usize
     ensures { λ r. ⌜ r ≡ x ⌝ }
 {
@@ -161,22 +162,20 @@ pub fn save_in<'a, 'b>(
     }
 }
 
-// A register's pair removed, if there is one: how many are left. More than 32 pairs stay as they are.
-pub fn drop_in<'a, 'b>(
+// A register's pair removed, if there is one: how many are left.
+fn drop_in<'a, 'b>(
     regs: &'a mut [u16; 32],
     slots: &'b mut [u16; 32],
     count: usize,
     reg: usize,
 ) -> usize
+    requires { ⌜ count ≤ 32 ⌝ }
     ensures { λ r. ⌜
         ((fp : Bool) (units : ℕ) →
         stateOf fp units r (now (regs .exit)) (now (slots .exit)) ≡
-        Restore.dropped (stateOf fp units count (now (regs .entry)) (now (slots .entry))) reg)
+        Restore.without (stateOf fp units count (now (regs .entry)) (now (slots .entry))) reg)
         ⌝ }
 {
-    if MAX_SAVED < count {
-        return count;
-    }
     match seek(regs, count, reg) {
         Found::At(i) => {
             let last = count - 1;
@@ -186,6 +185,44 @@ pub fn drop_in<'a, 'b>(
         }
         Found::Nowhere => count,
     }
+}
+
+// A register back to its entry rule, among the pairs of a state with any base and units, by the numbers of an architecture.
+pub fn restore_in<'a, 'b>(
+    regs: &'a mut [u16; 32],
+    slots: &'b mut [u16; 32],
+    count: usize,
+    arch: u8,
+    reg: usize,
+) -> Counted
+    ensures { λ r. ⌜
+        ((fp : Bool) (units : ℕ) →
+        nextIn fp units r (now (regs .exit)) (now (slots .exit)) ≡
+        next (stateOf fp units count (now (regs .entry)) (now (slots .entry)))
+        (Restore.restore (numbers arch) (stateOf fp units count (now (regs .entry)) (now (slots .entry))) reg))
+        ⌝ }
+{
+    let a = numbers(arch);
+    if MAX_SAVED < count {
+        return Counted {
+            status: Status::BadOpening,
+            count,
+        };
+    }
+    let left = drop_in(regs, slots, count, reg);
+    if reg != a.ra as usize {
+        return Counted {
+            status: Status::Done,
+            count: left,
+        };
+    }
+    if a.entry_ra_slot == 0 {
+        return Counted {
+            status: Status::Done,
+            count: left,
+        };
+    }
+    save_in(regs, slots, left, reg, a.entry_ra_slot as usize)
 }
 
 // The entry state.
@@ -255,62 +292,6 @@ impl State {
         }
     }
 
-    // The state without a register's pair, if it has one and counts at most 32.
-    fn without(mut self, reg: usize) -> State
-        ensures { λ r. ⌜ r ≡ Restore.dropped self reg ⌝ }
-    {
-        let mut regs = self.regs;
-        let mut slots = self.slots;
-        self.count = drop_in(&mut regs, &mut slots, self.count, reg);
-        self.regs = regs;
-        self.slots = slots;
-        self
-    }
-
-    // A register back to its entry rule, by the numbers of an architecture.
-    pub fn restore_by(mut self, arch: u8, reg: usize) -> Next
-        ensures { λ r. ⌜ r ≡ next self (Restore.restore (numbers arch) self reg) ⌝ }
-    {
-        let a = numbers(arch);
-        if MAX_SAVED < self.count {
-            return Next {
-                status: Status::BadOpening,
-                state: self,
-            };
-        }
-        let given = self;
-        self = self.without(reg);
-        if reg != a.ra as usize {
-            return Next {
-                status: Status::Done,
-                state: self,
-            };
-        }
-        if a.entry_ra_slot == 0 {
-            return Next {
-                status: Status::Done,
-                state: self,
-            };
-        }
-        let saved = self.save(reg, a.entry_ra_slot as usize);
-        let status = saved.status;
-        match status {
-            Status::Done => saved,
-            Status::OutOfRange => Next {
-                status: Status::OutOfRange,
-                state: given,
-            },
-            Status::Full => Next {
-                status: Status::Full,
-                state: given,
-            },
-            Status::BadOpening => Next {
-                status: Status::BadOpening,
-                state: given,
-            },
-        }
-    }
-
     // A register back to its entry rule.
     pub fn restore(mut self, arch: u8, reg: usize) -> Next
         ensures { λ r. ⌜ r ≡ next self (Public.restore arch self reg) ⌝ }
@@ -321,6 +302,16 @@ impl State {
                 state: self,
             };
         }
-        self.restore_by(arch, reg)
+        let mut regs = self.regs;
+        let mut slots = self.slots;
+        let restored = restore_in(&mut regs, &mut slots, self.count, arch, reg);
+        let status = restored.status;
+        self.count = restored.count;
+        self.regs = regs;
+        self.slots = slots;
+        Next {
+            status,
+            state: self,
+        }
     }
 }

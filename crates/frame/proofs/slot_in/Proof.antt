@@ -38,12 +38,12 @@ enum-told c = search needs
 returns : tie.Need-returns
 returns c =
     let x = c .before .before .before .before .before .before .args in
-    read-value _ _ _ (part-read (now (x .stack)) (x .top - 8 * x .slot) (x .top - 8 * x .slot + 8) (c .before .before .before .u64-in .result) (c .before .before .before .u64-in .ensures) refl (omega arith)) (c .before .v .given .1)
+    read-value _ _ _ (part-read (now (x .stack)) (x .top - 8 * x .slot) (x .top - 8 * x .slot + 8) (c .before .before .before .u64-in .result) (c .before .before .before .u64-in .ensures .0) refl (omega arith)) (c .before .v .given .1)
 
 returns-2 : tie.Need-returns-2
 returns-2 c =
     let x = c .before .before .before .before .before .args in
-    read-outside _ _ _ (part-read (now (x .stack)) (x .top - 8 * x .slot) (x .top - 8 * x .slot + 8) (c .before .before .u64-in .result) (c .before .before .u64-in .ensures) refl (omega arith)) (c .enum-told .given .1)
+    read-outside _ _ _ (part-read (now (x .stack)) (x .top - 8 * x .slot) (x .top - 8 * x .slot + 8) (c .before .before .u64-in .result) (c .before .before .u64-in .ensures .0) refl (omega arith)) (c .enum-told .given .1)
 
 pub slot-in-spec : {M : Type 1} → statement M
 slot-in-spec =

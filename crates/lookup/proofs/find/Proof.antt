@@ -57,8 +57,8 @@ search-in-requires c κs =
 enum-known-at : tie.Need-enum-known-at Inv-loop μ-loop
 enum-known-at c = search needs
 
-place-of-requires : tie.Need-place-of-requires Inv-loop μ-loop
-place-of-requires c κs =
+place-tested-requires : tie.Need-place-tested-requires Inv-loop μ-loop
+place-tested-requires c κs =
     let a = c .before in
     let y = a .before .before in
     let x = y .before .before in
@@ -72,9 +72,9 @@ returns-2 c =
     let x = y .before .before in
     let h = x .before .before in
     let held = rw (a .at .given .1) at (y .search-in .ensures .0) in (
-      c .place-of .ensures .0 ∙
+      c .place-tested .ensures .0 ∙
           looking-held _ _ _ _ _ (h .before .before .loop .inv) (omega arith) _ (sym (x .c .given .1) ∙ h .head-at .ensures) _ held,
-      c .place-of .ensures .1,
+      c .place-tested .ensures .1,
     )
 
 enum-told-3 : tie.Need-enum-told-3 Inv-loop μ-loop
@@ -133,7 +133,7 @@ find-spec =
     enum-known-c
     search-in-requires
     enum-known-at
-    place-of-requires
+    place-tested-requires
     returns-2
     enum-told-3
     add-k-2

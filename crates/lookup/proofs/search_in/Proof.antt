@@ -2,13 +2,13 @@
 use mathlib.Core.Path.{_∙_}
 use native.Mathlib.Omega.{arith}
 use Rattle.lookup.proofs.Records.{stands-room, first-stands, last-stands, stands-start, stands-end}
-use Rattle.lookup.proofs.Gate.{gate-empty, gate-below, gate-above, gate-open, search-shut, search-open}
+use Rattle.lookup.proofs.InRange.{range-empty, range-below, range-above, range-within, search-skips, search-goes}
 use borrow.Author.Needs.{needs}
 use Rattle.lookup.proofs.search_in.Statement.{statement}
 use Rattle.lookup.proofs.search_in.Tie as tie
 
 returns : tie.Need-returns
-returns c = (search-shut _ _ _ _ (gate-empty _ _ _ (c .if1 .taken)), tt)
+returns c = (search-skips _ _ _ _ (range-empty _ _ _ (c .if1 .taken)), tt)
 
 add-first : tie.Need-add-first
 add-first c = search needs
@@ -23,7 +23,7 @@ returns-2 : tie.Need-returns-2
 returns-2 c =
     let x = c .before .before .before .before .before .before in
     let first = first-stands (x .args .c) (omega arith) in
-    (search-shut _ _ _ _ (gate-below _ _ _ (rw (c .before .start-at .ensures ∙ stands-start _ _ _ _ _ first) at (c .if2 .taken))), tt)
+    (search-skips _ _ _ _ (range-below _ _ _ (rw (c .before .start-at .ensures ∙ stands-start _ _ _ _ _ first) at (c .if2 .taken))), tt)
 
 sub-end-at : tie.Need-sub-end-at
 sub-end-at c = search needs
@@ -51,7 +51,7 @@ returns-3 c =
     let e = c .before in
     let x = e .before .before .before .before .before .before .before .before .before in
     let last = last-stands (x .args .c) (omega arith) in
-    (search-shut _ _ _ _ (gate-above _ _ _ (rw (e .end-at .ensures ∙ stands-end _ _ _ _ _ last) at (c .if3 .taken))), tt)
+    (search-skips _ _ _ _ (range-above _ _ _ (rw (e .end-at .ensures ∙ stands-end _ _ _ _ _ last) at (c .if3 .taken))), tt)
 
 halve-by-requires : tie.Need-halve-by-requires
 halve-by-requires c κs = search needs
@@ -67,11 +67,11 @@ returns-4 c =
     let x = some .before .before .before in
     let first = first-stands (x .args .c) (omega arith) in
     let last = last-stands (x .args .c) (omega arith) in
-    let gate =
-    gate-open _ _ _ (some .if1 .left)
+    let within =
+    range-within _ _ _ (some .if1 .left)
     (rw (below .before .start-at .ensures ∙ stands-start _ _ _ _ _ first) at (below .if2 .left))
     (rw (above .before .end-at .ensures ∙ stands-end _ _ _ _ _ last) at (above .if3 .left)) in
-    (c .settle .ensures .0 ∙ search-open _ _ _ _ gate, c .settle .ensures .1)
+    (c .settle .ensures .0 ∙ search-goes _ _ _ _ within, c .settle .ensures .1)
 
 pub search-in-spec : {M : Type 1} → statement M
 search-in-spec =

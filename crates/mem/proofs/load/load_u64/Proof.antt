@@ -1,22 +1,18 @@
 -- `mem::load::load_u64` meets its contract. Assumes nothing.
 use borrow.Author.Needs.{needs}
 use lib.Dec.{lit<}
-use Rattle.mem.proofs.Loaded.{loads-value, loads-outside}
+use Rattle.mem.proofs.Loaded.{loads-word}
 use Rattle.mem.proofs.load.load_u64.Statement.{statement}
 use Rattle.mem.proofs.load.load_u64.Tie as tie
 
 bytes-at-requires : tie.Need-bytes-at-requires
 bytes-at-requires c κs = search needs
 
-le8-requires : tie.Need-le8-requires
-le8-requires c κs = search needs
+u64-in-requires : tie.Need-u64-in-requires
+u64-in-requires c κs = search needs
 
 returns : tie.Need-returns
-returns c =
-    loads-value _ _ _ _ _ 8 _ (lit< tt) (c .before .before .bytes-at .ensures) (c .before .if1 .taken) _ (c .le8 .ensures)
-
-returns-2 : tie.Need-returns-2
-returns-2 c = loads-outside _ _ _ _ _ 8 _ (lit< tt) (c .before .bytes-at .ensures) (c .if1 .left)
+returns c = loads-word _ _ _ _ _ 8 _ (lit< tt) (c .before .bytes-at .ensures) _ (c .u64-in .ensures)
 
 pub load-u64-spec : {M : Type 1} → statement M
-load-u64-spec = tie.close (tie.spec bytes-at-requires le8-requires returns returns-2)
+load-u64-spec = tie.close (tie.spec bytes-at-requires u64-in-requires returns)

@@ -12,11 +12,11 @@ le8-requires c κs = search needs
 
 returns : tie.Need-returns
 unfolding wordIn
-returns c = rw (eq-eqb _ 8 (c .before .if1 .taken)) (ap Answer (c .le8 .ensures .0))
+returns c = (rw (eq-eqb _ 8 (c .before .if1 .taken)) (ap Answer (c .le8 .ensures .0)), c .le8 .ensures .1)
 
 returns-2 : tie.Need-returns-2
 unfolding wordIn
-returns-2 c = rw (ne-eqb _ 8 (c .if1 .left))
+returns-2 c = (rw (ne-eqb _ 8 (c .if1 .left)), tt)
 
 pub u64-in-spec : {M : Type 1} → statement M
 u64-in-spec = tie.close (tie.spec le8-requires returns returns-2)

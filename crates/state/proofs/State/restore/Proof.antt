@@ -13,13 +13,13 @@ is-known-requires c κs = search needs
 returns : tie.Need-returns
 returns c = ap (next _) (restore-unknown _ _ _ (sym (c .before .is-known .ensures) ∙ not-true _ (c .if1 .taken)))
 
-restore-by-requires : tie.Need-restore-by-requires
-restore-by-requires c κs = search needs
+restore-in-requires : tie.Need-restore-in-requires
+restore-in-requires c κs = search needs
 
 returns-2 : tie.Need-returns-2
 returns-2 c =
-    c .restore-by .ensures ∙
-    ap (next _) (restore-known _ _ _ (sym (c .before .before .is-known .ensures) ∙ not-false _ (c .before .if1 .left)))
+    let known = c .before .before .before .before .before in
+    c .restore-in .ensures _ _ ∙ ap (next _) (restore-known _ _ _ (sym (known .before .is-known .ensures) ∙ not-false _ (known .if1 .left)))
 
 pub restore-spec : {M : Type 1} → statement M
-restore-spec = tie.close (tie.spec is-known-requires returns restore-by-requires returns-2)
+restore-spec = tie.close (tie.spec is-known-requires returns restore-in-requires returns-2)

@@ -178,7 +178,7 @@ fn offsets(rows: usize) -> Vec<u32> {
     offsets
 }
 
-fn same_row(rust: &failure::Result<Option<(u32, u32)>>, ours: &raw::Landing) -> bool {
+fn same_row(rust: &failure::Result<Option<(u32, u32)>>, ours: &raw::RowFound) -> bool {
     match rust {
         Ok(Some((pad, action))) => (ours.status, ours.pad, ours.action) == (ANSWERED, *pad as usize, *action as usize),
         Ok(None) => ours.status == NONE,

@@ -58,15 +58,8 @@ fn throw(memory: Memory, regs: Regs) -> Result<(), Failure> {
                 println!("landing in frame {number}: pc {:x}, sp {:x}, exception {}", regs.pc(), regs.sp(ARCH)?, regs.r[0]);
                 unwinding = next;
             }
-            Resumed::Terminated => {
-                println!("a row terminates");
-                break;
-            }
-            Resumed::Finished => {
-                println!("finished");
-                break;
-            }
+            Resumed::Terminated => return Ok(println!("a row terminates")),
+            Resumed::Finished => return Ok(println!("finished")),
         }
     }
-    Ok(())
 }

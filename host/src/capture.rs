@@ -6,7 +6,7 @@ const VERSION: u32 = 1;
 
 impl Memory<'_> {
     /// A failure as a file, from the arguments of its [`Memory::raise`]. `./run FILE` prints its frames and the landing pads that
-    /// will run.
+    /// will run. It takes files of up to 1,048,575 bytes, of which 400 are the head: lend the stack from sp up, and no more.
     pub fn capture(self, arch: Arch, regs: Regs, pc: usize, interrupted: bool, exception: usize) -> Vec<u8> {
         let mut bytes = MAGIC.to_vec();
         bytes.extend(VERSION.to_le_bytes());

@@ -182,7 +182,7 @@ pub struct Row {
 }
 
 impl Row {
-    fn of(a: raw::Landing) -> Row {
+    fn of(a: raw::RowFound) -> Row {
         let action = match a.action {
             0 => Action::Cleanup,
             1 => Action::Catch,

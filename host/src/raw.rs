@@ -41,7 +41,7 @@ pub struct Ended {
 }
 
 #[repr(C)]
-pub struct Landing {
+pub struct RowFound {
     pub status: u32,
     pub pad: usize,
     pub action: usize,
@@ -138,12 +138,12 @@ unsafe extern "C" {
         section: *const u8, section_len: usize, section_base: usize,
         stack: *const u8, stack_len: usize, stack_base: usize,
         table: usize, ret: u32,
-    ) -> Landing;
+    ) -> RowFound;
     pub fn eko_handler2(
         section: *const u8, section_len: usize, section_base: usize,
         stack: *const u8, stack_len: usize, stack_base: usize,
         table: usize, limit: usize, ret: u32,
-    ) -> Landing;
+    ) -> RowFound;
     pub fn eko_personality(
         section: *const u8, section_len: usize, section_base: usize,
         stack: *const u8, stack_len: usize, stack_base: usize,

@@ -35,20 +35,23 @@ impl Capture<'_> {
         let mut text = format!("{name}, {how} at {:016x}, exception {:016x}\n", self.regs.pc(), self.exception);
         writeln!(text, "section at {section_base:016x}, {} bytes", section.len()).unwrap();
         writeln!(text, "stack at   {stack_base:016x}, {} bytes", stack.len()).unwrap();
-        text + FRAMES + &self.frames() + &self.throw()
+        let (frames, spot) = self.frames();
+        text + FRAMES + &frames + &self.throw(spot)
     }
 
-    fn frames(&self) -> String {
-        let mut text = String::new();
+    /// The frame table, and the first frame that is refused, for its step or its row.
+    fn frames(&self) -> (String, Option<Frame>) {
+        let (mut text, mut spot) = (String::new(), None);
         let mut frame = Frame { number: 0, interrupted: self.interrupted, regs: self.regs };
         loop {
             let (record, caller) = match self.memory.next_frame(self.arch, frame) {
                 Ok(Some(next)) => next,
-                Ok(None) => return text + "walk: ended\n",
-                Err(failure) => return text + &format!("walk: {}\n", refused(failure)),
+                Ok(None) => return (text + "walk: ended\n", spot),
+                Err(failure) => return (text + &format!("walk: {}\n", refused_at(frame, failure)), spot.or(Some(frame))),
             };
             let (pc, sp) = (frame.regs.pc(), frame.regs.sp(self.arch).unwrap());
             let row = self.row(frame, record);
+            spot = spot.or(row.starts_with("refused").then_some(frame));
             writeln!(text, "{:5}  {:016x}  {pc:016x}  {sp:016x}  {row}", frame.number, record.start).unwrap();
             frame = caller;
         }
@@ -76,14 +79,14 @@ impl Capture<'_> {
         self.memory.handler2(table, record.limit, ret)
     }
 
-    fn throw(&self) -> String {
+    fn throw(&self, spot: Option<Frame>) -> String {
         let (raised, mut unwinding) =
             self.memory.raise(self.arch, self.regs, self.regs.pc(), self.interrupted, self.exception);
         let mut text = match raised {
             Ok(Raised::Chosen { number, .. }) => format!("throw: frame {number} catches\n{PADS}"),
             Ok(Raised::Terminated) => return "throw: stopped by a terminate row; no landing pad runs\n".to_string(),
             Ok(Raised::EndOfStack) => return "throw: no frame catches; no landing pad runs\n".to_string(),
-            Err(failure) => return format!("throw: {}; no landing pad runs\n", refused(failure)),
+            Err(failure) => return format!("throw: {}; no landing pad runs\n", refused_at(spot.unwrap(), failure)),
         };
         let mut turn = 0;
         while let Ok(Resumed::Landing { number, regs, next }) = self.memory.resume(self.arch, unwinding) {
@@ -107,6 +110,10 @@ impl Capture<'_> {
 
 fn refused(failure: Failure) -> String {
     format!("refused, {} {failure:?}", failure.number())
+}
+
+fn refused_at(frame: Frame, failure: Failure) -> String {
+    format!("refused at frame {}, pc {:016x}, {} {failure:?}", frame.number, frame.regs.pc(), failure.number())
 }
 
 #[test]

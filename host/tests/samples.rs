@@ -27,10 +27,21 @@ fn the_samples_are_those_that_capture_writes() {
     assert!(same);
 }
 
+/// Lines as a block of a page.
+fn block(text: &str) -> String {
+    text.lines().map(|line| format!("    {line}\n")).collect()
+}
+
 #[test]
-fn the_example_prints_what_the_readme_says() {
+fn the_example_is_and_prints_what_the_pages_say() {
     let example = Path::new(CAPTURE).with_file_name("examples").join("unwind");
     let said = String::from_utf8(Command::new(example).output().unwrap().stdout).unwrap();
-    let block: String = said.lines().map(|line| format!("    {line}\n")).collect();
-    assert!(!block.is_empty() && fs::read_to_string(here("README.md")).unwrap().contains(&block));
+    assert!(!said.is_empty() && fs::read_to_string(here("README.md")).unwrap().contains(&block(&said)));
+    let page = fs::read_to_string(here("../README.md")).unwrap();
+    let (_, thrown) = said.split_once("frame 2: ").unwrap().1.split_once('\n').unwrap();
+    let (thrown, _) = thrown.split_once("stack and section").unwrap();
+    assert!(thrown.lines().count() == 4 && page.contains(&block(thrown)));
+    let text = fs::read_to_string(here("examples/unwind.rs")).unwrap();
+    let (_, throw) = text.split_once("fn throw").unwrap().1.split_once('\n').unwrap();
+    assert!(page.contains(throw.strip_suffix("}\n").unwrap()));
 }

@@ -28,7 +28,7 @@ pub fn lengths(arch: u64, random: &mut Random) -> Vec<String> {
     list
 }
 
-/// Saves and restores on states of every count.
+/// Saves, restores and slots of states of every count.
 fn states(list: &mut Vec<String>, random: &mut Random) {
     for count in 0..=32 {
         for _ in 0..4 {
@@ -42,6 +42,7 @@ fn states(list: &mut Vec<String>, random: &mut Random) {
             let slot = random.pick(&[slot, wide]);
             list.push(request(NONE, NONE, &format!("save {state} {reg} {slot}")));
             list.push(request(NONE, NONE, &format!("restore {state} {reg}")));
+            list.extend([held, some, 16].map(|reg| request(NONE, NONE, &format!("slot {state} {reg}"))));
         }
     }
 }
@@ -133,9 +134,12 @@ pub fn openings(arch: u64, random: &mut Random) -> Vec<String> {
     for count in [31, 32, 33, 34, 255, 1 << 32, usize::MAX] {
         let state = state(random.below(2), random.below(4), count, &[]);
         let slot = random.below(3);
-        for operation in
-            [format!("apply {state} {file}"), format!("save {state} 3 {slot}"), format!("restore {state} 3")]
-        {
+        for operation in [
+            format!("apply {state} {file}"),
+            format!("save {state} 3 {slot}"),
+            format!("restore {state} 3"),
+            format!("slot {state} 3"),
+        ] {
             list.push(request(NONE, NONE, &operation));
         }
     }

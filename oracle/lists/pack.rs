@@ -12,7 +12,7 @@ use tokens::{bytes, list, number};
 /// The status that stands for `outside`: our number for an address in neither range.
 const OUTSIDE: u64 = 27;
 
-/// The status that stands for `none`: no record or no row, and no refusal.
+/// The status that stands for `none`: no record, no row or no slot, and no refusal.
 const NONE: u64 = 0xff;
 
 /// A request and its answer, cut into tokens.
@@ -82,6 +82,7 @@ fn layout(name: &str, case: &Case) -> Option<(u64, Vec<u64>)> {
         "handler" => (14, row(case, 2)?),
         "handler2" => (15, row(case, 3)?),
         "personality" => (16, personality(case)?),
+        "slot" => (17, slot(case)?),
         _ => return None,
     })
 }
@@ -171,6 +172,20 @@ fn changed(case: &Case, numbers: usize) -> Packed {
     match &case.answer[..] {
         ["state", after @ ..] => out.extend(state(after)?),
         _ => out.extend(state(before)?),
+    }
+    Some(out)
+}
+
+/// STATE REG STATUS SLOT
+fn slot(case: &Case) -> Packed {
+    let (before, rest) = case.args.split_at_checked(4)?;
+    let [reg] = rest[..] else { return None };
+    let mut out = state(before)?;
+    out.push(number(reg)?);
+    match case.answer[..] {
+        ["slot", slot] => out.extend([0, number(slot)?]),
+        ["none"] => out.extend([NONE, 0]),
+        _ => return None,
     }
     Some(out)
 }

@@ -282,7 +282,7 @@ pub fn state(fp: u64, units: u64, count: usize, pairs: &[(u64, u64)]) -> String 
     format!("{fp} {units} {count} {pairs}")
 }
 
-/// Saves and restores on states with leftovers past the count, with a register twice, and with 31 and 32 pairs.
+/// Saves, restores and slots of states with leftovers past the count, with a register twice, and with 31 and 32 pairs.
 fn saved_states(list: &mut Vec<String>, random: &mut Random) {
     let bounds = [(16, 1), (30, 2), (31, 3), (71, 4), (72, 5), (79, 6), (80, 7), (65535, 65535)];
     let many = |n: u64| -> Vec<(u64, u64)> { (0..n).map(|k| (k, k + 1)).collect() };
@@ -307,6 +307,9 @@ fn saved_states(list: &mut Vec<String>, random: &mut Random) {
             list.push(asked(&format!("save {state} {reg} 65535")));
             list.push(asked(&format!("restore {state} {reg}")));
         }
+        for reg in registers.into_iter().filter(|reg| *reg < 65536) {
+            list.push(asked(&format!("slot {state} {reg}")));
+        }
         for slot in [0, 1, 65534, 65536, MAX] {
             list.push(asked(&format!("save {state} 16 {slot}")));
             list.push(asked(&format!("save {state} 65536 {slot}")));
@@ -320,6 +323,7 @@ fn saved_states(list: &mut Vec<String>, random: &mut Random) {
         let reg = random.below(40);
         list.push(asked(&format!("save {state} {reg} {}", random.below(65540))));
         list.push(asked(&format!("restore {state} {reg}")));
+        list.push(asked(&format!("slot {state} {reg}")));
     }
 }
 

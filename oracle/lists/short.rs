@@ -190,8 +190,12 @@ fn states(list: &mut Vec<String>, arch: u64) {
     let full: Vec<(u64, u64)> = (0..32).map(|n| (8 * n, n + 1)).collect();
     for (count, n) in [0, 1, 31, 32].into_iter().flat_map(|count| (0..=300).map(move |n| (count, n))) {
         let state = state(0, 1, count, &full);
-        for operation in [format!("save {state} {n} 7"), format!("save {state} 8 {n}"), format!("restore {state} {n}")]
-        {
+        for operation in [
+            format!("save {state} {n} 7"),
+            format!("save {state} 8 {n}"),
+            format!("restore {state} {n}"),
+            format!("slot {state} {n}"),
+        ] {
             list.push(request(NONE, NONE, &operation));
         }
     }

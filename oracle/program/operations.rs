@@ -27,6 +27,7 @@ pub fn answer(line: &str) -> Answer {
         "personality" => personality(args),
         "save" => save(args),
         "restore" => restore(args),
+        "slot" => slot(args),
         "uleb" => uleb(args),
         "get" => get(args),
         "set" => set(args),
@@ -131,6 +132,16 @@ fn restore(args: &mut Args) -> Answer {
     args.end()?;
     eko::shim::restore(&mut state, reg)?;
     Ok(state_text(&state))
+}
+
+fn slot(args: &mut Args) -> Answer {
+    let state = args.state()?;
+    let reg = args.number()?;
+    args.end()?;
+    Ok(match state.slot(reg) {
+        None => "none".to_string(),
+        Some(slot) => format!("slot {slot}"),
+    })
 }
 
 fn uleb(args: &mut Args) -> Answer {

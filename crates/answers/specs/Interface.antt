@@ -47,12 +47,12 @@ use Rattle.answers.specs.declared.Function.{Function}
 use Rattle.answers.specs.declared.Read.{Read}
 use Rattle.answers.specs.declared.Changed.{Changed}
 use Rattle.answers.specs.declared.Ended.{Ended}
-use Rattle.answers.specs.declared.Landing.{Landing}
 use Rattle.answers.specs.declared.Decided.{Decided}
 use Rattle.answers.specs.declared.Stepped.{Stepped}
 use Rattle.answers.specs.declared.Batch.{Batch}
 use Rattle.answers.specs.declared.Raised.{Raised}
 use Rattle.answers.specs.declared.Resumed.{Resumed}
+use Rattle.answers.specs.declared.RowFound.{RowFound}
 
 -- a number
 abbrev pub number : Outcome ℕ → Number
@@ -82,7 +82,7 @@ function (Refused n) = recordless n
 function (Answer none) = recordless 1
 function (Answer (some f)) = record { status = 0; found = f .function }
 
--- a number of a section and the address after it
+-- a number of what is lent and the address after it
 abbrev pub read : Outcome Reader.Read → Read
 read (Refused n) = record { status = n; value = 0; next = 0 }
 read (Answer x) = record { status = 0; value = x .value; next = x .next }
@@ -113,11 +113,11 @@ runStatus (program-case.Refused n) = n
 abbrev pub ended : program.Ended → Ended
 ended e = record { status = runStatus (e .status); state = e .state; after = e .after }
 
--- a row
-abbrev pub landing : Outcome Row.Found → Landing
-landing (Refused n) = record { status = n; pad = 0; action = 0 }
-landing (Answer Row.None) = record { status = 1; pad = 0; action = 0 }
-landing (Answer (Pad pad action)) = record { status = 0; pad = pad; action = action }
+-- a row: none has status 1
+abbrev pub row : Outcome Row.Found → RowFound
+row (Refused n) = record { status = n; pad = 0; action = 0 }
+row (Answer Row.None) = record { status = 1; pad = 0; action = 0 }
+row (Answer (Pad pad action)) = record { status = 0; pad = pad; action = action }
 
 -- the phase: cleanup or search
 abbrev pub phase : Bool → Phase
@@ -129,20 +129,23 @@ abbrev pub decidedBy : Regs → Code → Decided
 decidedBy regs (code.Reason r) = record { status = 0; reason = r; regs = regs }
 decidedBy regs (code.Refused n) = record { status = n; reason = 0; regs = regs }
 
+-- a reason with its register file
 abbrev pub decided : personality.Decided → Decided
 decided d = decidedBy (d .regs) (d .code)
 
--- a frame step, by its answer: past the frame its record; a status without one for the end and a refusal
+-- a frame step without a record: a status, and the frame that came in
 abbrev pub unstepped : ℕ → ℕ → Bool → Regs → Stepped
 unstepped status number interrupted regs =
     record { status = status; function = noRecord; number = number; interrupted = interrupted; regs = regs }
 
+-- a frame step, by its answer: past the frame its record, and the caller; at the end and for a refusal no record
 abbrev pub steppedBy : ℕ → Bool → Regs → Walked → Stepped
 steppedBy number interrupted regs (walked.Past r) =
     record { status = 0; function = r; number = number; interrupted = interrupted; regs = regs }
 steppedBy number interrupted regs walked.End = unstepped 1 number interrupted regs
 steppedBy number interrupted regs (walked.Refused n) = unstepped n number interrupted regs
 
+-- a frame step
 abbrev pub stepped : unwind-step.Stepped → Stepped
 stepped s = steppedBy (s .number) (s .interrupted) (s .regs) (s .answer)
 
@@ -165,6 +168,7 @@ raisedBy u raise.Stopped = record { status = 0; reason = search-phase.reasonOf s
 raisedBy u raise.Ended = record { status = 0; reason = search-phase.reasonOf search-phase.Ended; number = 0; sp = 0; unwinding = u }
 raisedBy u (raise.Refused n) = record { status = n; reason = 0; number = 0; sp = 0; unwinding = u }
 
+-- a throw
 abbrev pub raised : unwind-raise.Raised → Raised
 raised r = raisedBy (r .unwinding) (r .answer)
 

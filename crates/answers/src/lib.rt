@@ -35,7 +35,7 @@ pub const ANSWERED: u32 = 0;
 
 pub const NONE: u32 = 1;
 
-// The reason of a throw that no frame catches.
+// The reason of a throw whose search comes to the end of the stack.
 pub const URC_END_OF_STACK: u32 = 5;
 
 // A number.
@@ -59,7 +59,7 @@ pub struct Function {
     pub found: Record,
 }
 
-// A number of a section, and the address after it.
+// A number of what is lent, and the address after it.
 #[repr(C)]
 pub struct Read {
     pub status: u32,
@@ -84,7 +84,7 @@ pub struct Ended {
 
 // A row.
 #[repr(C)]
-pub struct Landing {
+pub struct RowFound {
     pub status: u32,
     pub pad: usize,
     pub action: usize,
@@ -213,7 +213,7 @@ pub fn to_function(l: Lookup) -> Function
     }
 }
 
-// A number of a section.
+// A number of what is lent.
 pub fn to_read(n: leb::Number) -> Read
     ensures { λ r. ⌜ r ≡ Interface.read (Reader.told n) ⌝ }
 {
@@ -299,21 +299,21 @@ pub fn to_ended(e: program::Ended) -> Ended
 }
 
 // A row.
-pub fn to_landing(row: Row) -> Landing
-    ensures { λ r. ⌜ r ≡ Interface.landing (found row) ⌝ }
+pub fn to_row(row: Row) -> RowFound
+    ensures { λ r. ⌜ r ≡ Interface.row (found row) ⌝ }
 {
     match row {
-        Row::Is(pad, action) => Landing {
+        Row::Is(pad, action) => RowFound {
             status: ANSWERED,
             pad,
             action,
         },
-        Row::None => Landing {
+        Row::None => RowFound {
             status: NONE,
             pad: 0,
             action: 0,
         },
-        Row::Refused(n) => Landing {
+        Row::Refused(n) => RowFound {
             status: n,
             pad: 0,
             action: 0,

@@ -29,11 +29,11 @@ use answers::Decided;
 use answers::Ended;
 use answers::File;
 use answers::Function;
-use answers::Landing;
 use answers::Number;
 use answers::Raised;
 use answers::Read;
 use answers::Resumed;
+use answers::RowFound;
 use answers::Stepped;
 use answers::to_batch;
 use answers::to_changed;
@@ -41,12 +41,12 @@ use answers::to_decided;
 use answers::to_ended;
 use answers::to_file;
 use answers::to_function;
-use answers::to_landing;
 use answers::to_number;
 use answers::to_phase;
 use answers::to_raised;
 use answers::to_read;
 use answers::to_resumed;
+use answers::to_row;
 use answers::to_slot;
 use answers::to_stepped;
 use arch::Regs;
@@ -261,13 +261,13 @@ pub extern "C" fn eko_handler<'a>(
     stack_base: usize,
     table: usize,
     ret: u32,
-) -> Landing
+) -> RowFound
     ensures { λ r. ⌜
-        r ≡ Interface.landing
+        r ≡ Interface.row
         (Handler.handlerIn (lent (now (section .entry)) «section_base» (now (stack .entry)) «stack_base») table ret)
         ⌝ }
 {
-    to_landing(handler(section, section_base, stack, stack_base, table, ret))
+    to_row(handler(section, section_base, stack, stack_base, table, ret))
 }
 
 // The row of a return offset in a table of version 2.
@@ -280,13 +280,13 @@ pub extern "C" fn eko_handler2<'a>(
     table: usize,
     limit: usize,
     ret: u32,
-) -> Landing
+) -> RowFound
     ensures { λ r. ⌜
-        r ≡ Interface.landing
+        r ≡ Interface.row
         (Handler2.handler2In (lent (now (section .entry)) «section_base» (now (stack .entry)) «stack_base») table limit ret)
         ⌝ }
 {
-    to_landing(handler2(section, section_base, stack, stack_base, table, limit, ret))
+    to_row(handler2(section, section_base, stack, stack_base, table, limit, ret))
 }
 
 // The reason of a frame, in the search phase or the cleanup phase.

@@ -16,6 +16,7 @@ use personality::Phase;
 use rows::Row;
 use rows::handler::handler;
 use rows::handler2::handler2;
+use state::Slot;
 use state::State;
 
 // The value of a lower-case hexadecimal digit; 0 for any other byte.
@@ -420,6 +421,18 @@ fn check_restore(words: &[usize; 1024], arch: u8) -> bool {
     same_change(words, after(at, 1), got)
 }
 
+// slot: STATE REG STATUS SLOT; ff is none.
+fn check_slot(words: &[usize; 1024]) -> bool {
+    let at = after(2, state_size(words, 2));
+    let got = state(words, 2).slot((word(words, at) % 65536) as u16);
+    let status = word(words, after(at, 1));
+    match got {
+        Slot::In(k) => status == 0 && k as usize == word(words, after(at, 2)),
+        Slot::Unsaved => status == 255,
+        Slot::BadOpening => status == 28,
+    }
+}
+
 // apply: what is lent, STATE FILE STATUS FILE'.
 fn check_apply(words: &[usize; 1024], arch: u8) -> bool {
     let m = lent_by(words);
@@ -590,6 +603,7 @@ fn check_case(words: &[usize; 1024]) -> bool {
         14 => check_handler(words),
         15 => check_handler2(words),
         16 => check_personality(words, arch),
+        17 => check_slot(words),
         _ => false,
     }
 }

@@ -98,6 +98,21 @@ struct Capture {
     exception: usize,
 }
 
+// What a turn of the walk comes to: a frame, one whose row is refused, the end, or a refusal of the frame's step.
+enum Turn {
+    On,
+    RowRefused,
+    End,
+    Refused,
+}
+
+// The first frame that is refused, for its step or its row, if there is one. A throw that is refused is refused there.
+struct Spot {
+    is: bool,
+    number: usize,
+    pc: usize,
+}
+
 // Printing.
 
 fn put(text: &[u8]) {
@@ -152,6 +167,18 @@ fn name(n: u32) {
 // A refusal, by its number and name.
 fn refused(n: u32) {
     put(b"refused, ");
+    decimal(n as usize);
+    put(b" ");
+    name(n);
+}
+
+// A refusal, with the frame that it is met at.
+fn refused_at(number: usize, pc: usize, n: u32) {
+    put(b"refused at frame ");
+    decimal(number);
+    put(b", pc ");
+    hex(pc);
+    put(b", ");
     decimal(n as usize);
     put(b" ");
     name(n);
@@ -251,7 +278,7 @@ fn frame_line(number: usize, start: usize, pc: usize, sp: usize, row: Row) {
     put(b"\n");
 }
 
-// A frame with its record.
+// A frame with its record; whether its row is refused.
 fn past<'a>(
     section: &'a [u8],
     stack: &'a [u8],
@@ -260,7 +287,7 @@ fn past<'a>(
     interrupted: bool,
     regs: Regs,
     record: Record,
-) {
+) -> Turn {
     let row = row_of(
         section,
         c.section_base,
@@ -272,9 +299,14 @@ fn past<'a>(
         regs.pc(),
     );
     frame_line(number, record.start, regs.pc(), value(regs.sp(c.arch)), row);
+    match row {
+        Row::None => Turn::On,
+        Row::Is(_, _) => Turn::On,
+        Row::Refused(_) => Turn::RowRefused,
+    }
 }
 
-// What the step of a frame comes to; whether the walk goes on.
+// What the step of a frame comes to.
 fn walked<'a>(
     section: &'a [u8],
     stack: &'a [u8],
@@ -283,32 +315,62 @@ fn walked<'a>(
     interrupted: bool,
     regs: Regs,
     answer: Walked,
-) -> bool {
+) -> Turn {
     match answer {
-        Walked::Past(record) => {
-            past(section, stack, c, number, interrupted, regs, record);
-            true
-        }
+        Walked::Past(record) => past(section, stack, c, number, interrupted, regs, record),
         Walked::End => {
             put(b"walk: ended\n");
-            false
+            Turn::End
         }
         Walked::Refused(n) => {
             put(b"walk: ");
-            refused(n);
+            refused_at(number, regs.pc(), n);
             put(b"\n");
-            false
+            Turn::Refused
         }
     }
 }
 
+// Whether the walk goes on.
+fn goes_on(turn: Turn) -> bool {
+    match turn {
+        Turn::On => true,
+        Turn::RowRefused => true,
+        Turn::End => false,
+        Turn::Refused => false,
+    }
+}
+
+// The first frame that is refused, after a turn at a frame.
+fn met(spot: Spot, turn: Turn, number: usize, pc: usize) -> Spot {
+    if spot.is {
+        return spot;
+    }
+    let here = Spot {
+        is: true,
+        number,
+        pc,
+    };
+    match turn {
+        Turn::On => spot,
+        Turn::RowRefused => here,
+        Turn::End => spot,
+        Turn::Refused => here,
+    }
+}
+
 // The frame table, and how the walk ends.
-fn frames<'a>(section: &'a [u8], stack: &'a [u8], c: Capture) {
+fn frames<'a>(section: &'a [u8], stack: &'a [u8], c: Capture) -> Spot {
     put(b"\nframe  record start      pc                sp                row\n");
     let regs = c.regs;
     let mut number: usize = 0;
     let mut first = c.interrupted;
     let mut file = regs.set_pc(c.pc);
+    let mut spot = Spot {
+        is: false,
+        number: 0,
+        pc: 0,
+    };
     let mut turns: usize = 0;
     while turns < TURNS {
         let next = next_frame(
@@ -322,14 +384,17 @@ fn frames<'a>(section: &'a [u8], stack: &'a [u8], c: Capture) {
             file,
         );
         let answer = next.answer;
-        if !walked(section, stack, c, number, first, file, answer) {
-            return;
+        let turn = walked(section, stack, c, number, first, file, answer);
+        spot = met(spot, turn, number, file.pc());
+        if !goes_on(turn) {
+            return spot;
         }
         number = next.number;
         first = next.interrupted;
         file = next.regs;
         turns += 1;
     }
+    spot
 }
 
 // The landing pads.
@@ -433,7 +498,7 @@ fn pads<'a>(section: &'a [u8], stack: &'a [u8], c: Capture, unwinding: Unwinding
 }
 
 // What the throw comes to, and the landing pads if a frame catches.
-fn throw<'a>(section: &'a [u8], stack: &'a [u8], c: Capture) {
+fn throw<'a>(section: &'a [u8], stack: &'a [u8], c: Capture, spot: Spot) {
     let raised = raise(
         section,
         c.section_base,
@@ -457,7 +522,11 @@ fn throw<'a>(section: &'a [u8], stack: &'a [u8], c: Capture) {
         RaiseAnswer::Stopped => put(b"stopped by a terminate row; no landing pad runs\n"),
         RaiseAnswer::Ended => put(b"no frame catches; no landing pad runs\n"),
         RaiseAnswer::Refused(n) => {
-            refused(n);
+            if spot.is {
+                refused_at(spot.number, spot.pc, n);
+            } else {
+                refused(n);
+            }
             put(b"; no landing pad runs\n");
         }
     }
@@ -501,8 +570,8 @@ fn head_lines(c: Capture, section_length: usize, stack_length: usize) {
 
 fn report<'a>(section: &'a [u8], stack: &'a [u8], c: Capture) {
     head_lines(c, section.len(), stack.len());
-    frames(section, stack, c);
-    throw(section, stack, c);
+    let spot = frames(section, stack, c);
+    throw(section, stack, c, spot);
 }
 
 // An input that is no capture: why, and a number that says more.

@@ -129,7 +129,7 @@ impl Request<'_> {
         let too_many_pairs = || Some(tokens::number(self.arguments.get(2)?)? > 32);
         match self.operation {
             "get" | "set" | "fp" | "sp" | "set_sp" | "strip" => Some(false),
-            "save" | "restore" => too_many_pairs(),
+            "save" | "restore" | "slot" => too_many_pairs(),
             "apply" => Some(!opens(self.section, self.stack) || too_many_pairs()?),
             _ => Some(!opens(self.section, self.stack)),
         }

@@ -5,10 +5,10 @@ use Rattle.report.proofs.frames.Statement.{statement}
 use Rattle.report.proofs.frames.Tie as tie
 
 abbrev Inv-loop : tie.InvT-loop
-Inv-loop section stack c number₀ first₀ file₀ turns₀ number first file turns = Unit
+Inv-loop section stack c number₀ first₀ file₀ spot₀ turns₀ number first file spot turns = Unit
 
 abbrev μ-loop : tie.MeasureT-loop
-μ-loop section stack c number₀ first₀ file₀ turns₀ number first file turns = 1025 - turns
+μ-loop section stack c number₀ first₀ file₀ spot₀ turns₀ number first file spot turns = 1025 - turns
 
 slice-aggregate-put : tie.Need-slice-aggregate-put Inv-loop μ-loop
 slice-aggregate-put c = search needs
@@ -27,6 +27,15 @@ next-frame-requires c κs = search needs
 
 walked-requires : tie.Need-walked-requires Inv-loop μ-loop
 walked-requires c κs = search needs
+
+pc-requires : tie.Need-pc-requires Inv-loop μ-loop
+pc-requires c κs = search needs
+
+met-requires : tie.Need-met-requires Inv-loop μ-loop
+met-requires c κs = search needs
+
+goes-on-requires : tie.Need-goes-on-requires Inv-loop μ-loop
+goes-on-requires c κs = search needs
 
 returns : tie.Need-returns Inv-loop μ-loop
 returns c = search needs
@@ -55,6 +64,9 @@ frames-spec =
     loop-holds
     next-frame-requires
     walked-requires
+    pc-requires
+    met-requires
+    goes-on-requires
     returns
     add-turns
     loop-less

@@ -22,6 +22,7 @@ pub fn answer(arch: Arch, line: &str) -> Answer {
         "personality" => personality(arch, memory, args),
         "save" => save(args),
         "restore" => restore(arch, args),
+        "slot" => slot(args),
         "uleb" => uleb(memory, args),
         "get" => get(arch, args),
         "set" => set(arch, args),
@@ -117,6 +118,15 @@ fn restore(arch: Arch, args: &mut Args) -> Answer {
     let (state, reg) = (args.state()?, args.number()?);
     args.end()?;
     Ok(state_text(&state.restore(arch, reg)?))
+}
+
+fn slot(args: &mut Args) -> Answer {
+    let (state, reg) = (args.state()?, args.number()?);
+    args.end()?;
+    Ok(match state.slot(reg)? {
+        None => "none".to_string(),
+        Some(slot) => format!("slot {slot}"),
+    })
 }
 
 fn uleb(memory: Memory, args: &mut Args) -> Answer {

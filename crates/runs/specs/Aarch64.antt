@@ -1,4 +1,4 @@
--- Closed runs on aarch64: four stories, and what each comes to.
+-- Closed runs on aarch64: five scenarios, and what each comes to.
 use mathlib.Core.List.{List, [], _∷_, _++_}
 use Prim.Native.Nat.{ℕ, _+_}
 use lib.ListN.{replicate}
@@ -7,7 +7,7 @@ use Rattle.model.specs.Machine.{Machine}
 use Rattle.model.specs.Event.{Call, Spill, Change, Reload, Move, Write}
 use Rattle.model.specs.Throw.{Throw}
 use Rattle.model.specs.Expected.{LandingPad}
-use Rattle.runs.specs.Story.{Told, does, against, Story, throwAt, interruptAt, landing}
+use Rattle.runs.specs.Scenario.{Labelled, does, against, Scenario, throwAt, interruptAt, landing}
 
 -- the section, at address 1000 hexadecimal; its records by chunk and index, each as it is past its first
 -- instructions, with its rows by the addresses that calls return to:
@@ -59,10 +59,10 @@ start =
       frames = [];
     }
 
--- the story: `outer` calls itself, that one calls `old`, that one `framed`, that one `plain`. Two return addresses decide what comes of
--- it, and so are left open: where the second `outer` is returned to, and where `old` is
-abbrev pub story : ℕ → ℕ → List Told
-story caller old =
+-- the events: `outer` calls itself, that one calls `old`, that one `framed`, that one `plain`. Two return addresses decide what comes
+-- of them, and so are left open: where the second `outer` is returned to, and where `old` is
+abbrev pub eventsWith : ℕ → ℕ → List Labelled
+eventsWith caller old =
     -- no frame is open yet
     against (Call 0 9 0) ∷  -- there is no such record
     against (Call 0 0 0x4010) ∷  -- the first call returns to 0
@@ -134,23 +134,23 @@ landings number =
     219 ∷ 1020 ∷ 1021 ∷ 1022 ∷ 1023 ∷ 1024 ∷ 1025 ∷ 1026 ∷ 1027 ∷ 1028 ∷
     1029 ∷ 0x4010 ∷ 1072 ∷ 1073 ∷ 1074 ∷ 1075 ∷ 1076 ∷ 1077 ∷ 1078 ∷ 1079 ∷ []) ∷ []
 
--- the story to its end
-abbrev pub ends : List Told → Throw → Searched → List LandingPad → Story
-ends told throw answer landings = record { machine = start; told = told; throw = throw; answer = answer; landings = landings }
+-- a scenario from there
+abbrev pub ends : List Labelled → Throw → Searched → List LandingPad → Scenario
+ends labelled throw answer landings = record { machine = start; labelled = labelled; throw = throw; answer = answer; landings = landings }
 
 -- `plain` throws. It has no table and is passed over; `framed` and `old` clean up, and the second `outer` catches. The cleanup of the
 -- outermost frame is not due
-abbrev pub caught : Story
-caught = ends (story 0x4010 0x4114) (throwAt 0x4090) (Chosen 3 0x8060) (landings 1)
+abbrev pub caught : Scenario
+caught = ends (eventsWith 0x4010 0x4114) (throwAt 0x4090) (Chosen 3 0x8060) (landings 1)
 
 -- the call of `old` has a terminate row, which comes before the catch: 3, and nothing lands
-abbrev pub terminated : Story
-terminated = ends (story 0x4010 0x411c) (throwAt 0x4090) Stopped []
+abbrev pub terminated : Scenario
+terminated = ends (eventsWith 0x4010 0x411c) (throwAt 0x4090) Stopped []
 
 -- nobody catches: 5, and nothing lands, though four frames have cleanups
-abbrev pub uncaught : Story
-uncaught = ends (story 0x4018 0x4114) (throwAt 0x4090) Ended []
+abbrev pub uncaught : Scenario
+uncaught = ends (eventsWith 0x4018 0x4114) (throwAt 0x4090) Ended []
 
 -- `plain` calls `framed`, a frame of version 2, which is interrupted at its first instruction
-abbrev pub atEntry : Story
-atEntry = ends (story 0x4010 0x4114 ++ (does (Call 0 1 0x4094) ∷ [])) (interruptAt 0x4040) (Chosen 4 0x8060) (landings 2)
+abbrev pub atEntry : Scenario
+atEntry = ends (eventsWith 0x4010 0x4114 ++ (does (Call 0 1 0x4094) ∷ [])) (interruptAt 0x4040) (Chosen 4 0x8060) (landings 2)

@@ -76,7 +76,20 @@ x86-scenarios = (
   holds-reported X86.inLeaf x86-fresh refl (λ exception. refl),
 )
 
+-- and the two with version 1 words of the other kind
+pub leaf-scenarios : Holds Aarch64.inLeaf × Holds X86.overUnlinked
+unfolding bounded apart opens Place.holds bytesAt load byteAt ulebAt numbers isKnown columnOf get set overfull entry save formOf decode frameRegs follow act run savedPairs fpPair raSlot badFp loadSlot applyAt apply pastTable leafCfa fpCfa spCfa frameCfa returnAddress setReturn setFrame setCaller stepAt Step.step readAs passes valid checked entryAt leftBreaks rightBreaks judged handler nextDelta matched handler2 rowsOf word stride chunkAt faulty headAt startAt endAt addressOf handlersOf recordAt recordAt2 recordOf holds badRecord chunksFrom chunks records halve leftMeets rightMeets settle Lookup.search gate searchIn lookup soundTest rowless rowAfter installed searchedCode Reason.rowOf callerFile notAdvancing past frameStep search installPad clean opened raise resume column isRegister value inside meet put written layoutAt samePairs goodFp fits described pushes calling keptBy newFrame notSpNorPc callAllowed entered spillAllowed changeAllowed reloadAllowed writeAllowed throwAllowed rows1 rows2 rowsIn rowOf wholeTable goodTable goodFrame padOf outcome due answerOf current raisedBy unwindingOf
+leaf-scenarios = (
+  holds-reported Aarch64.inLeaf aarch64-fresh refl (λ exception. refl),
+  holds-reported X86.overUnlinked x86-fresh refl (λ exception. refl),
+)
+
 -- the events of the first scenario of each are within the rules or against them, as their labels say
 pub labels-right : (labelsRight Aarch64.start (Aarch64.caught .labelled) ≡ true) × (labelsRight X86.start (X86.caught .labelled) ≡ true)
 unfolding bounded apart opens Place.holds bytesAt load byteAt ulebAt numbers isKnown columnOf get set overfull entry save formOf decode frameRegs follow act run savedPairs fpPair raSlot badFp loadSlot applyAt apply pastTable leafCfa fpCfa spCfa frameCfa returnAddress setReturn setFrame setCaller stepAt Step.step readAs passes valid checked entryAt leftBreaks rightBreaks judged handler nextDelta matched handler2 rowsOf word stride chunkAt faulty headAt startAt endAt addressOf handlersOf recordAt recordAt2 recordOf holds badRecord chunksFrom chunks records halve leftMeets rightMeets settle Lookup.search gate searchIn lookup soundTest rowless rowAfter installed searchedCode Reason.rowOf callerFile notAdvancing past frameStep search installPad clean opened raise resume column isRegister value inside meet put written layoutAt samePairs goodFp fits described pushes calling keptBy newFrame notSpNorPc callAllowed entered spillAllowed changeAllowed reloadAllowed writeAllowed throwAllowed rows1 rows2 rowsIn rowOf wholeTable goodTable goodFrame padOf outcome due answerOf current raisedBy unwindingOf
 labels-right = (refl, refl)
+
+-- so are those of the last one
+pub leaf-labels-right : (labelsRight Aarch64.start Aarch64.toLeaf ≡ true) × (labelsRight X86.start X86.toLeaf ≡ true)
+unfolding bounded apart opens Place.holds bytesAt load byteAt ulebAt numbers isKnown columnOf get set overfull entry save formOf decode frameRegs follow act run savedPairs fpPair raSlot badFp loadSlot applyAt apply pastTable leafCfa fpCfa spCfa frameCfa returnAddress setReturn setFrame setCaller stepAt Step.step readAs passes valid checked entryAt leftBreaks rightBreaks judged handler nextDelta matched handler2 rowsOf word stride chunkAt faulty headAt startAt endAt addressOf handlersOf recordAt recordAt2 recordOf holds badRecord chunksFrom chunks records halve leftMeets rightMeets settle Lookup.search gate searchIn lookup soundTest rowless rowAfter installed searchedCode Reason.rowOf callerFile notAdvancing past frameStep search installPad clean opened raise resume column isRegister value inside meet put written layoutAt samePairs goodFp fits described pushes calling keptBy newFrame notSpNorPc callAllowed entered spillAllowed changeAllowed reloadAllowed writeAllowed throwAllowed rows1 rows2 rowsIn rowOf wholeTable goodTable goodFrame padOf outcome due answerOf current raisedBy unwindingOf
+leaf-labels-right = (refl, refl)

@@ -25,7 +25,7 @@ use Rattle.model.specs.Throw.{Throw, throwAllowed, framesAt}
 use Rattle.model.specs.Sound.{goodFrames}
 use Rattle.model.specs.Expected.{LandingPad, Compared, outcome, due, firstOf}
 use Rattle.model.specs.Demand.{answerOf, regular, currentBy, current, IsRefused, Admissible, unlessRefused, answers, raisedBy, unwindingOf}
-use Rattle.runs.specs.Scenario.{Scenario, reached, regulars, irregular, mixed, answersAfter, callsFor, Holds}
+use Rattle.runs.specs.Scenario.{Scenario, reached, regulars, handedBack, irregular, mixed, answersAfter, callsFor, Holds}
 
 -- regular sweep calls are a list that demand 3 speaks of
 pub regulars-admissible : (n : ℕ) (m : Machine) (u : Unwinding) → Admissible m u (regulars n m u)
@@ -177,10 +177,9 @@ holds-reported s fresh tables e =
       raises = ap (λ (r : Report). r .raises) (e 0);
       cleans = answered;
       refuses = irregular-refused (reached s);
-      admissible = λ exception. mixed-admissible (callsFor s) (reached s) (unwindingOf (reached s) (s .throw) exception);
+      admissible = λ exception. mixed-admissible (callsFor s) (reached s) (handedBack s exception);
       cleansMixed = λ exception.
-          mixed-same (numbers (s .machine .arch)) (callsFor s) (reached s) (unwindingOf (reached s) (s .throw) exception)
-          ∙ answered exception;
+          mixed-same (numbers (s .machine .arch)) (callsFor s) (reached s) (handedBack s exception) ∙ answered exception;
     }
   where
     begun : ℕ → Unwinding

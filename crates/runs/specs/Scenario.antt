@@ -91,10 +91,13 @@ abbrev pub regulars : ℕ → Machine → Unwinding → List ResumeCall
 regulars zero m u = []
 regulars (suc n) m u = regular m u ∷ regulars n m (current u (regular m u))
 
+-- the unwinding that a scenario's throw hands back, for an exception
+abbrev pub handedBack : Scenario → ℕ → Unwinding
+handedBack s exception = unwindingOf (reached s) (s .throw) exception
+
 -- what so many of them give after a scenario, for an exception
 abbrev pub answersAfter : Scenario → ℕ → ℕ → List Compared
-answersAfter s exception n =
-    answers (numbers (s .machine .arch)) (regulars n (reached s) (unwindingOf (reached s) (s .throw) exception))
+answersAfter s exception n = answers (numbers (s .machine .arch)) (regulars n (reached s) (handedBack s exception))
 
 -- a call that is not regular: of architecture 3
 abbrev pub irregular : Machine → Unwinding → ResumeCall
@@ -107,7 +110,7 @@ mixed (suc n) m u = irregular m u ∷ regular m u ∷ mixed n m (current u (regu
 
 -- what they give after a scenario, for an exception
 abbrev pub mixedAfter : Scenario → ℕ → ℕ → List Compared
-mixedAfter s exception n = answers (numbers (s .machine .arch)) (mixed n (reached s) (unwindingOf (reached s) (s .throw) exception))
+mixedAfter s exception n = answers (numbers (s .machine .arch)) (mixed n (reached s) (handedBack s exception))
 
 -- as many calls as there are landings, and two more
 abbrev pub callsFor : Scenario → ℕ
@@ -127,6 +130,6 @@ pub record Holds (s : Scenario) : Type 0 where
   pub cleans : (exception : ℕ) → answersAfter s exception (callsFor s) ≡ firstOf (callsFor s) (s .landings)
   -- irregular calls among them are refused with 28, make a list that demand 3 speaks of, and change no answer
   pub refuses : (u : Unwinding) → answerOf (irregular (reached s) u) ≡ Refused BadOpening
-  pub admissible :
-      (exception : ℕ) → Admissible (reached s) (unwindingOf (reached s) (s .throw) exception) (mixed (callsFor s) (reached s) (unwindingOf (reached s) (s .throw) exception))
+  pub admissible : (exception : ℕ) →
+      Admissible (reached s) (handedBack s exception) (mixed (callsFor s) (reached s) (handedBack s exception))
   pub cleansMixed : (exception : ℕ) → mixedAfter s exception (callsFor s) ≡ firstOf (callsFor s) (s .landings)

@@ -1,4 +1,5 @@
 -- The laws that callers cite, each file named after the definition that it is about.
+pub mod Cell
 pub mod Slot
 pub mod Pairs
 pub mod Turn

@@ -11,7 +11,7 @@ use Rattle.arch.specs.Arch.{Arch}
 use Rattle.arch.specs.File.{columnOf, set}
 use Rattle.frame.specs.Layout.{Pair}
 use Rattle.frame.specs.Apply.{loadSlot, restorePairs}
-use Rattle.frame.specs.Answers.{Cell, cellOf}
+use Rattle.frame.proofs.Cell.{Cell, cellOf}
 
 module _ (a : Arch) (m : Memory) (at : ℕ) (p : Pair) (ps : List Pair) (file : List ℕ) where
   -- the first pair's cell is set, and the others follow

@@ -17,7 +17,7 @@ use Rattle.frame.specs.Layout.{Pair}
 use Rattle.frame.specs.Apply.{restorePairs}
 use Rattle.frame.specs.Frame.{reversed, mask, firstSlot, named, rising, falling, slotOf, savedPairs}
 use Rattle.frame.specs.Near.{Saves}
-use Rattle.frame.specs.Answers.{cellOf}
+use Rattle.frame.proofs.Cell.{cellOf}
 use Rattle.frame.proofs.Pairs.{restore-set, restore-refused}
 use Rattle.frame.proofs.Named.{named-set, named-clear, named-zero}
 use Rattle.frame.proofs.Saves.{mask-within}

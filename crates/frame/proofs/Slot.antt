@@ -14,7 +14,7 @@ use Rattle.mem.specs.Wrapping.{difference}
 use Rattle.arch.specs.Arch.{Arch}
 use Rattle.arch.specs.File.{columnOf}
 use Rattle.frame.specs.Apply.{loadSlot}
-use Rattle.frame.specs.Answers.{cellOf}
+use Rattle.frame.proofs.Cell.{cellOf}
 
 -- what is loaded at a slot's address is what the slot holds
 pub slot-at : (m : Memory) (at slot k : ℕ) (o : Outcome ℕ) → k ≡ difference at (8 * slot) → o ≡ load m 8 k → o ≡ loadSlot m at slot

@@ -12,7 +12,7 @@ use Rattle.arch.specs.File.{get, set, columnOf}
 use Rattle.frame.specs.Apply.{loadSlot, restorePairs, returned}
 use Rattle.frame.specs.Frame.{kind, onFp, savedPairs, fpPair, raSlot}
 use Rattle.frame.specs.Step.{frameCfa, returnAddress, setReturn, setFrame, setCaller, stepAt, step}
-use Rattle.frame.specs.Answers.{cellOf}
+use Rattle.frame.proofs.Cell.{cellOf}
 use Rattle.frame.proofs.Pairs.{restore-set, restore-refused}
 use Rattle.frame.proofs.Slot.{cell-at}
 

@@ -10,7 +10,7 @@ use Rattle.mem.specs.Memory.{Memory}
 use Rattle.arch.specs.Arch.{Arch}
 use Rattle.frame.specs.Layout.{Pair, pairsAt}
 use Rattle.frame.specs.Apply.{restorePairs}
-use Rattle.frame.specs.Answers.{cellOf}
+use Rattle.frame.proofs.Cell.{cellOf}
 use Rattle.frame.proofs.Pairs.{restore-set, restore-refused}
 
 -- pair number i

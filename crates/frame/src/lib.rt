@@ -1,7 +1,7 @@
 // The caller's registers: from an unwind state (ps-unwind's `apply`) and from a version 1 frame word (its `step`).
-// `apply` and `step` refuse with 28 first. `apply_into` and `step_into`, which change a file in place, `apply_state` and
-// `step_frame` are for the crates above, which have tested what is lent, the architecture and the count: there any architecture
-// but 1 stands for 2, and a state has no pair past its arrays.
+// `apply` and `step` refuse with 28 first. `apply_into` and `step_into`, which change a file in place, are for the crates above,
+// which have tested what is lent, the architecture and the count: there any architecture but 1 stands for 2, and a state has no
+// pair past its arrays.
 ghost use mathlib.Core.Path.{_≡_};
 ghost use mathlib.Core.List.{List};
 ghost use mathlib.Core.Logic.{_⊎_};
@@ -137,6 +137,7 @@ fn slot_in(stack: &[u8], top: usize, slot: usize) -> usize
     let e = k + 8;
     match load::u64_in(&stack[k..e]) {
         Word::Value(v) => v,
+        // the part has 8 bytes, so it is not too short
         Word::Outside => 0,
     }
 }
@@ -148,6 +149,7 @@ fn ra_column(arch: u8) -> usize
     let a = arch::numbers(arch);
     match arch::column_of(arch, a.ra) {
         Column::At(k) => k,
+        // every file has the return register
         Column::Unknown => 0,
     }
 }
@@ -251,6 +253,7 @@ fn pairs_near<'a, 'b>(
     while i < n {
         match arch::column_of(arch, regs[i]) {
             Column::At(k) => file[k] = slot_in(stack, top, wide(slots[i])),
+            // each pair is usable, so its register is known
             Column::Unknown => return,
         }
         i += 1;
@@ -472,7 +475,7 @@ pub fn apply_into<'a, 'b>(
 }
 
 // The caller's registers from a state, for any architecture number and count.
-pub fn apply_state<'a>(
+fn apply_state<'a>(
     section: &'a [u8],
     section_base: usize,
     stack: &'a [u8],
@@ -685,6 +688,7 @@ fn saved_column(arch: u8, bit: usize) -> usize
 {
     match arch::column_of(arch, arch::saved(arch, bit)) {
         Column::At(k) => k,
+        // every file has the registers of its SAVED table
         Column::Unknown => 0,
     }
 }
@@ -1181,7 +1185,7 @@ pub fn step_into<'a>(
 }
 
 // The caller's registers from a version 1 frame word, for any architecture number. First means interrupted.
-pub fn step_frame<'a>(
+fn step_frame<'a>(
     section: &'a [u8],
     section_base: usize,
     stack: &'a [u8],

@@ -19,4 +19,4 @@ use Rattle.marked.specs.Table.{table}
 pub examples-hold : Hold table
 unfolding holds bytesAt load byteAt ulebAt numbers overfull entry save without returnSaved restore formOf decode frameRegs follow act run savedPairs valid checked nextDelta matched handler2
 examples-hold =
-    (refl, (refl, (refl, (refl, (refl, (refl, (refl, (refl, (refl, (refl, (refl, (refl, (refl, (refl, (refl, (refl, (refl, (refl, tt))))))))))))))))))
+    (refl, (refl, (refl, (refl, (refl, (refl, (refl, (refl, (refl, (refl, (refl, (refl, (refl, (refl, (refl, (refl, (refl, (refl, (refl, (refl, tt))))))))))))))))))))

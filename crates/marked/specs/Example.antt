@@ -1,4 +1,4 @@
--- What an example says: a definition's value at the example's bytes. A later module adds a kind of example and what it says.
+-- What an example says: the value of a definition at the example's bytes.
 use mathlib.Core.Path.{_≡_}
 use mathlib.Core.List.{List, [], _∷_}
 use Prim.Native.Nat.{ℕ, _+_}
@@ -21,6 +21,7 @@ base = 0x1000
 abbrev pub section : List ℕ → Memory
 section bytes = lent bytes base [] 1 .regions
 
+-- an example of document 01, by what it is about
 pub data Example : Type 0 where
   -- the bytes of a uleb, and its value or refusal
   uleb : List ℕ → Outcome ℕ → Example

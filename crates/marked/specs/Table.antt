@@ -12,13 +12,15 @@ infix 90 _at_
 abbrev pub _at_ : ℕ → ℕ → Pair
 _at_ reg slot = record { reg = reg; slot = slot }
 
--- a base, units above it, and pairs
+-- a state on sp: units above it, and pairs
 abbrev pub onSp : ℕ → List Pair → Outcome Layout
 onSp units pairs = Answer (record { onFp = false; units = units; pairs = pairs })
 
+-- a state on fp
 abbrev pub onFp : ℕ → List Pair → Outcome Layout
 onFp units pairs = Answer (record { onFp = true; units = units; pairs = pairs })
 
+-- the marked examples
 abbrev pub table : List Example
 table =
     uleb (0x7f ∷ []) (Answer 127)
@@ -33,7 +35,9 @@ table =
     ∷ program 1 (0x02 ∷ 0xc9 ∷ 0x04 ∷ 0x00 ∷ []) 8 (onFp 2 (29 at 2 ∷ 30 at 1 ∷ []))
     ∷ program 2 (0x90 ∷ 0x05 ∷ 0xf0 ∷ 0x00 ∷ []) 0 (onSp 1 (16 at 1 ∷ []))
     ∷ program 2 (0xc7 ∷ 0xc7 ∷ 0xc7 ∷ 0xc7 ∷ 0xc7 ∷ 0x00 ∷ []) 0 (Refused 10)
+    ∷ program 1 (0xc7 ∷ 0xc7 ∷ 0xc7 ∷ 0xc7 ∷ 0xc7 ∷ 0x00 ∷ []) 0 (Refused 10)
     ∷ program 2 (0xc8 ∷ 0x00 ∷ []) 0 (Refused 18)
+    ∷ program 1 (0xc8 ∷ 0x00 ∷ []) 0 (Refused 18)
     ∷ rows (0x02 ∷ 0x05 ∷ 0x29 ∷ 0x03 ∷ 0x40 ∷ []) 5 (Answer (Pad 10 catch))
     ∷ rows (0x02 ∷ 0x05 ∷ 0x29 ∷ 0x03 ∷ 0x40 ∷ []) 8 (Answer (Pad 16 cleanup))
     ∷ rows (0x02 ∷ 0x05 ∷ 0x29 ∷ 0x03 ∷ 0x40 ∷ []) 6 (Answer None)

@@ -16,8 +16,8 @@ use Rattle.model.specs.Cleanup.{Cleaned, clean}
 use Rattle.model.specs.Unwinding.{opened, frameOf, choiceOf, resume, resumed}
 use Rattle.model.specs.Machine.{Machine, lentBy}
 use Rattle.model.specs.Throw.{standing}
-use Rattle.model.specs.Expected.{LandingPad, Given, Finished, firstOf}
-use Rattle.model.specs.Demand.{ResumeCall, answerOf, regular, current, currentBy, IsRefused, Admissible, RegularServed, given, answers}
+use Rattle.model.specs.Expected.{LandingPad, Compared, Finished, firstOf}
+use Rattle.model.specs.Demand.{ResumeCall, answerOf, regular, current, currentBy, IsRefused, Admissible, RegularServed, compared, answers}
 use Rattle.model.proofs.Walks.{Walks}
 use Rattle.model.proofs.Cleaning.{chosen-above, At, Amid, Over, Cleans, cleans}
 
@@ -36,7 +36,7 @@ pub record Serves (m : Machine) (u : Unwinding) (ls : List LandingPad) : Type 0 
   pub answer : Cleaned
   pub rest : List LandingPad
   pub is : answerOf (regular m u) ≡ Answer answer
-  pub next : (k : ℕ) → firstOf (suc k) ls ≡ given (numbers (m .arch)) answer ∷ firstOf k rest
+  pub next : (k : ℕ) → firstOf (suc k) ls ≡ compared (numbers (m .arch)) answer ∷ firstOf k rest
   pub after : Due m (resumed u (Answer answer)) rest
 
 module _ (m : Machine) (accepted : opens (lentBy m) ≡ true) (known : isKnown (m .arch) ≡ true) (w : Walks (m .arch) (m .section) (m .stack)) where
@@ -79,7 +79,7 @@ module _ (m : Machine) (accepted : opens (lentBy m) ≡ true) (known : isKnown (
         is = cleaning u e ∙ rw (le-ltb (u .«chosen_number») (u .number) least) (x .is);
         next =
             λ k.
-            ap (λ (l : List LandingPad). firstOf (suc k) l) (x .first) ∙ ap (λ (g : Given). g ∷ firstOf k (x .rest)) (sym (x .same));
+            ap (λ (l : List LandingPad). firstOf (suc k) l) (x .first) ∙ ap (λ (g : Compared). g ∷ firstOf k (x .rest)) (sym (x .same));
         after = Some e (x .after);
       }
 
@@ -98,7 +98,7 @@ module _ (m : Machine) (accepted : opens (lentBy m) ≡ true) (known : isKnown (
           subst (λ (v : Unwinding). RegularServed m v cs) (sym same) (later .0),
         ),
         rw is
-            (ap (λ (gs : List Given). given (numbers (m .arch)) (s .answer) ∷ gs) (later .1) ∙
+            (ap (λ (gs : List Compared). compared (numbers (m .arch)) (s .answer) ∷ gs) (later .1) ∙
             sym (s .next (length (answers (numbers (m .arch)) cs)))),
       )
 

@@ -23,7 +23,7 @@ use Rattle.model.specs.Machine.{Open}
 use Rattle.model.specs.Throw.{Standing, standing, rowOf}
 use Rattle.model.specs.Sound.{goodFrame, goodFrames}
 use Rattle.model.specs.Expected.{LandingPad, Installed, padOf, outcomeBy, outcomeFrom, padsBy, padsFrom}
-use Rattle.model.specs.Demand.{given}
+use Rattle.model.specs.Demand.{compared}
 use Rattle.model.proofs.Chain.{AllLive, Chain, Agrees}
 use Rattle.model.proofs.Stands.{frame, Goes}
 use Rattle.model.proofs.Walks.{Walks, stood}
@@ -72,7 +72,7 @@ module _ (arch : ℕ) (section stack : Region) where
     pub rest : List LandingPad
     pub is : o ≡ Answer (Cleanup.Install number pad next)
     pub first : ls ≡ landing ∷ rest
-    pub same : given (numbers arch) (Cleanup.Install number pad next) ≡ Installed landing
+    pub same : compared (numbers arch) (Cleanup.Install number pad next) ≡ Installed landing
     pub after : At c next rest
 
   -- a frame that stands, its caller's file, and what the sweep of the frames after it comes to

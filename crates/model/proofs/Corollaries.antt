@@ -18,7 +18,7 @@ use Rattle.model.specs.Search.{Searched, Chosen, Stopped, Ended}
 use Rattle.model.specs.Machine.{Open, Machine, lentBy}
 use Rattle.model.specs.Throw.{Throw, thrown, throwable, throwAllowed, Standing, standing, framesAt, rowOf}
 use Rattle.model.specs.Sound.{Sound}
-use Rattle.model.specs.Expected.{LandingPad, Given, Finished, padOf, padsBy, padsFrom, outcome, due, dueBy, firstOf}
+use Rattle.model.specs.Expected.{LandingPad, Compared, Finished, padOf, padsBy, padsFrom, outcome, due, dueBy, firstOf}
 use Rattle.model.specs.OtherStack.{SameLive, withStack}
 use Rattle.model.specs.Demand.{ResumeCall, Admissible, answers, raisedBy, unwindingOf, EveryLanding}
 use Rattle.model.proofs.Chain.{AllLive, Inv}
@@ -76,7 +76,7 @@ pub then-finished : (m : Machine) (t : Throw) (exception : ℕ) → EveryLanding
     Admissible m (unwindingOf m t exception) cs → (k : ℕ) → length (due m t) ≤ k → k < length (answers (numbers (m .arch)) cs) →
     getElem? (answers (numbers (m .arch)) cs) k ≡ some Finished
 then-finished m t exception every cs admissible k past less =
-    ap (λ (gs : List Given). getElem? gs k) (every .lands cs admissible .1)
+    ap (λ (gs : List Compared). getElem? gs k) (every .lands cs admissible .1)
     ∙ first-finished (length (answers (numbers (m .arch)) cs)) (due m t) k past less
 
 -- a stack that agrees on the live slots holds the kept values in them

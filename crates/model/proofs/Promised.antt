@@ -14,7 +14,7 @@ use Rattle.model.specs.Machine.{Machine, lentBy}
 use Rattle.model.specs.Event.{steps}
 use Rattle.model.specs.Throw.{Throw, throwAllowed}
 use Rattle.model.specs.Sound.{Sound}
-use Rattle.model.specs.Expected.{LandingPad, Given, Finished, outcome, due, firstOf}
+use Rattle.model.specs.Expected.{LandingPad, Compared, Finished, outcome, due, firstOf}
 use Rattle.model.specs.Demand.{answerOf, raisedBy, unwindingOf}
 use Rattle.model.specs.Call.{after, nth, Gives, Promised}
 use Rattle.model.proofs.Chain.{Inv}
@@ -34,7 +34,7 @@ module _ (m : Machine) (accepted : opens (lentBy m) ≡ true) (known : isKnown (
   -- a call that is served gives the first of those due
   now-given : (u : Unwinding) (ls : List LandingPad) → Serves m u ls → Gives (numbers (m .arch)) (resume (lentBy m) (m .arch) u) (nth 0 ls)
   unfolding answerOf
-  now-given u ls s = rw (s .is) (sym (ap (λ (gs : List Given). getD gs 0 Finished) (s .next 0)) ∙ nth-first 0 ls)
+  now-given u ls s = rw (s .is) (sym (ap (λ (gs : List Compared). getD gs 0 Finished) (s .next 0)) ∙ nth-first 0 ls)
 
   -- and the rest is due after it
   later-given : (n : ℕ) (u : Unwinding) (ls : List LandingPad) → (s : Serves m u ls) →
@@ -44,7 +44,7 @@ module _ (m : Machine) (accepted : opens (lentBy m) ≡ true) (known : isKnown (
   later-given n u ls s g =
       let same : nth n (s .rest) ≡ nth (suc n) ls =
       sym (nth-first n (s .rest)) ∙
-      (sym (ap (λ (gs : List Given). getD gs (suc n) Finished) (s .next (suc n))) ∙ nth-first (suc n) ls) in
+      (sym (ap (λ (gs : List Compared). getD gs (suc n) Finished) (s .next (suc n))) ∙ nth-first (suc n) ls) in
       rw (s .is)
       (subst
       (Gives (numbers (m .arch)) (resume (lentBy m) (m .arch) (after n (lentBy m) (m .arch) (resumed u (Answer (s .answer))))))

@@ -63,7 +63,8 @@ cleanAt arch m exception c f rest (Past r next) = do
   row ← rowOf (numbers arch) m (f .interrupted) r (pc (f .file))
   byRow (numbers arch) exception c f r next (rest next) row
 
--- the next landing from a frame on, over at most n frames; from 1,025 on the first line is never met
+-- the next landing from a frame on; the first number is how many frames at most. With 1,025 or more of them the line for 0 is never
+-- met
 abbrev pub cleanFrom : ℕ → ℕ → Memory → ℕ → Choice → Frame → Outcome Cleaned
 cleanFrom zero arch m exception c f = Refused TooManyFrames
 cleanFrom (suc n) arch m exception c f =

@@ -18,7 +18,7 @@ use Rattle.model.specs.Machine.{Machine, Fresh, lentBy, value}
 use Rattle.model.specs.Event.{Event, steps}
 use Rattle.model.specs.Throw.{Throw, throwAllowed}
 use Rattle.model.specs.Sound.{Sound}
-use Rattle.model.specs.Expected.{Given, Installed, Fatal, Finished, outcome, due, firstOf}
+use Rattle.model.specs.Expected.{Compared, Installed, Fatal, Finished, outcome, due, firstOf}
 
 -- a sweep call: any architecture, anything lent, any unwinding
 pub record ResumeCall : Type 0 where
@@ -34,11 +34,12 @@ answerOf c = resume (c .lent) (c .arch) (c .unwinding)
 abbrev pub regular : Machine → Unwinding → ResumeCall
 regular m u = record { arch = m .arch; lent = lentBy m; unwinding = u }
 
--- the current unwinding after a call: what it returned, unless it was refused
+-- the current unwinding after a call that was given v and came to that: what it returned, unless it was refused
 abbrev pub currentBy : Unwinding → Unwinding → Outcome Cleaned → Unwinding
 currentBy u v (Refused n) = u
 currentBy u v (Answer x) = resumed v (Answer x)
 
+-- the same of a sweep call
 unfoldable pub current : Unwinding → ResumeCall → Unwinding
 current u c = currentBy u (c .unwinding) (answerOf c)
 
@@ -58,18 +59,19 @@ RegularServed m u [] = Unit
 RegularServed m u (c ∷ cs) = (c ≡ regular m u → IsRefused (answerOf c) → ⊥) × RegularServed m (current u c) cs
 
 -- an answer as it is compared: of a landing the frame number, sp, pc and preserved registers
-abbrev pub given : Arch → Cleaned → Given
-given a (Cleanup.Install number file next) =
+abbrev pub compared : Arch → Cleaned → Compared
+compared a (Cleanup.Install number file next) =
     Installed (record { number = number; sp = sp a file; pc = pc file; preserved = map (value a file) (a .preserved) })
-given a Cleanup.Fatal = Fatal
-given a Cleanup.Finished = Finished
+compared a Cleanup.Fatal = Fatal
+compared a Cleanup.Finished = Finished
+
+-- one call's answer before the rest, unless it is refused
+abbrev pub unlessRefused : Arch → Outcome Cleaned → List Compared → List Compared
+unlessRefused a (Refused n) rest = rest
+unlessRefused a (Answer x) rest = compared a x ∷ rest
 
 -- the answers of the calls that are not refused, in order
-abbrev pub unlessRefused : Arch → Outcome Cleaned → List Given → List Given
-unlessRefused a (Refused n) rest = rest
-unlessRefused a (Answer x) rest = given a x ∷ rest
-
-abbrev pub answers : Arch → List ResumeCall → List Given
+abbrev pub answers : Arch → List ResumeCall → List Compared
 answers a [] = []
 answers a (c ∷ cs) = unlessRefused a (answerOf c) (answers a cs)
 

@@ -66,6 +66,7 @@ fits a f file l =
     && (not (l .onFp) || goodFp (fp a file))
     && haveKept a f file (a .preserved)
 
+-- there is a layout, and it fits
 abbrev pub fitsSome : Arch → Open → List ℕ → Option Layout → Bool
 fitsSome a f file none = false
 fitsSome a f file (some l) = fits a f file l

@@ -130,15 +130,17 @@ reloading f reg = record { entry = f .entry; kept = f .kept; cfa = f .cfa; spill
 unfoldable pub writeAllowed : Machine → ℕ → ℕ → Bool
 writeAllowed m x v = ltb v (2 ^ 64) && inside (m .stack) x && clear x (m .frames)
 
--- the machine with other registers, another stack, other frames
+-- the machine with other registers
 abbrev pub withRegisters : Machine → List ℕ → Machine
 withRegisters m file =
     record { arch = m .arch; section = m .section; registers = file; stack = m .stack; frames = m .frames }
 
+-- the machine with a number written to the stack
 abbrev pub withWritten : Machine → ℕ → ℕ → Machine
 withWritten m x v =
     record { arch = m .arch; section = m .section; registers = m .registers; stack = written (m .stack) x v; frames = m .frames }
 
+-- the machine with other frames
 abbrev pub withFrames : Machine → List Open → Machine
 withFrames m fs = record { arch = m .arch; section = m .section; registers = m .registers; stack = m .stack; frames = fs }
 
@@ -147,7 +149,7 @@ abbrev pub call : Machine → ℕ → Option Entry → Machine
 call m ret none = m
 call m ret (some e) = if callAllowed m ret then entered m e ret else m
 
--- a spill, a change, a reload and a move of the innermost frame
+-- a spill of the innermost frame
 abbrev pub spill : Machine → ℕ → ℕ → List Open → Machine
 spill m reg slot [] = m
 spill m reg slot (f ∷ fs) =
@@ -155,11 +157,13 @@ spill m reg slot (f ∷ fs) =
     then withFrames (withWritten m (address (f .cfa) slot) (value (numbers (m .arch)) (m .registers) reg)) (spilling f reg slot ∷ fs)
     else m
 
+-- a change of the innermost frame
 abbrev pub change : Machine → ℕ → ℕ → List Open → Machine
 change m reg v [] = m
 change m reg v (f ∷ fs) =
     if changeAllowed m f reg v then withRegisters m (set (m .registers) (column (numbers (m .arch)) reg) v) else m
 
+-- a reload of the innermost frame
 abbrev pub reload : Machine → ℕ → List Open → Machine
 reload m reg [] = m
 reload m reg (f ∷ fs) =
@@ -169,10 +173,12 @@ reload m reg (f ∷ fs) =
     (reloading f reg ∷ fs)
     else m
 
+-- a move of sp in the innermost frame: at most to its CFA
 abbrev pub move : Machine → ℕ → List Open → Machine
 move m to [] = m
 move m to (f ∷ fs) = if leb to (f .cfa) then withRegisters m (setSp (numbers (m .arch)) (m .registers) to) else m
 
+-- a write to the stack
 abbrev pub write : Machine → ℕ → ℕ → Machine
 write m x v = if writeAllowed m x v then withWritten m x v else m
 

@@ -28,18 +28,19 @@ padOf a n s pad =
       preserved = map (value a (s .file)) (a .preserved);
     }
 
--- what the frames from number n on say to a search: the first catch, by its number and sp; 3 for a terminate row before any catch; 5
--- where there is neither
+-- frame n by its row: a catch is chosen, by its number and sp; terminate is 3; with none or a cleanup the frames after it decide
 abbrev pub outcomeBy : Arch → ℕ → Standing → Found → Searched → Searched
 outcomeBy a n s None rest = rest
 outcomeBy a n s (Pad pad action) rest =
     if eqb action cleanup then rest else if eqb action catch then Chosen n (sp a (s .file)) else Stopped
 
+-- what a search over the frames from number n on answers: the first catch, by its number and sp; 3 for a terminate row before any
+-- catch; 5 where there is neither
 abbrev pub outcomeFrom : Arch → Region → ℕ → List Standing → Searched
 outcomeFrom a section n [] = Ended
 outcomeFrom a section n (s ∷ ss) = outcomeBy a n s (rowOf a section s) (outcomeFrom a section (n + 1) ss)
 
--- the landings of the frames from number n on, up to the first catch: those with a cleanup row, innermost first, then the catch
+-- frame n by its row: a cleanup lands before the frames after it, a catch lands last, terminate ends the list
 abbrev pub padsBy : Arch → ℕ → Standing → Found → List LandingPad → List LandingPad
 padsBy a n s None rest = rest
 padsBy a n s (Pad pad action) rest =
@@ -47,6 +48,7 @@ padsBy a n s (Pad pad action) rest =
     else if eqb action catch then padOf a n s pad ∷ []
     else []
 
+-- the landings of the frames from number n on, up to the first catch: those with a cleanup row, innermost first, then the catch
 abbrev pub padsFrom : Arch → Region → ℕ → List Standing → List LandingPad
 padsFrom a section n [] = []
 padsFrom a section n (s ∷ ss) = padsBy a n s (rowOf a section s) (padsFrom a section (n + 1) ss)
@@ -66,12 +68,12 @@ unfoldable pub due : Machine → Throw → List LandingPad
 due m t = dueBy (outcome m t) (padsFrom (numbers (m .arch)) (m .section) 0 (framesAt m t))
 
 -- an answer of a sweep call, as it is compared
-pub data Given : Type 0 where
-  Installed : LandingPad → Given
-  Fatal Finished : Given
+pub data Compared : Type 0 where
+  Installed : LandingPad → Compared
+  Fatal Finished : Compared
 
 -- the first n answers: the landings, then finished for ever
-abbrev pub firstOf : ℕ → List LandingPad → List Given
+abbrev pub firstOf : ℕ → List LandingPad → List Compared
 firstOf zero ls = []
 firstOf (suc n) [] = Finished ∷ firstOf n []
 firstOf (suc n) (l ∷ ls) = Installed l ∷ firstOf n ls

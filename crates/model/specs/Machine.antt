@@ -22,6 +22,7 @@ pub record Open : Type 0 where
   pub cfa : ℕ
   pub spilled : List Pair
 
+-- a call machine
 pub record Machine : Type 0 where
   pub arch : ℕ
   pub section : Region
@@ -30,10 +31,11 @@ pub record Machine : Type 0 where
   -- the open frames, the innermost first
   pub frames : List Open
 
--- what the machine lends
+-- what the machine lends, as memory: the section, then the stack
 abbrev pub memory : Machine → Memory
 memory m = m .section ∷ m .stack ∷ []
 
+-- the same as it is handed to a call
 abbrev pub lentBy : Machine → Lent
 lentBy m = record { regions = memory m }
 

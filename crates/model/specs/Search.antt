@@ -45,7 +45,7 @@ searchAt arch m f rest (Past r next) = do
   row ← rowOf (numbers arch) m (f .interrupted) r (pc (f .file))
   byCode (numbers arch) f (searchCode row) (rest next)
 
--- the search from a frame on, over at most n frames; from 1,025 on the first line is never met
+-- the search from a frame on; the first number is how many frames at most. With 1,025 or more of them the line for 0 is never met
 abbrev pub searchFrom : ℕ → ℕ → Memory → Frame → Outcome Searched
 searchFrom zero arch m f = Refused TooManyFrames
 searchFrom (suc n) arch m f = frameStep arch m f >>= searchAt arch m f (λ next. searchFrom n arch m next)

@@ -20,11 +20,12 @@ use Rattle.personality.specs.Reason as Reason
 use Rattle.model.specs.Machine.{Machine}
 use Rattle.model.specs.Throw.{Throw, Standing, framesAt, recordOf, rows1}
 
--- offsets rise strictly
+-- offsets rise strictly after a row
 abbrev pub risesFrom : Entry → List Entry → Bool
 risesFrom e [] = true
 risesFrom e (f ∷ es) = ltb (e .offset) (f .offset) && risesFrom f es
 
+-- offsets rise strictly
 abbrev pub rises : List Entry → Bool
 rises [] = true
 rises (e ∷ es) = risesFrom e es
@@ -56,12 +57,13 @@ goodTable a section r =
     else if eqb (r .version) 2 then readsToEnd (run (section ∷ []) a (r .program) (r .limit) (2 ^ 32 - 1))
     else wholeTable (section ∷ []) (r .handlers)
 
--- and its row is not refused
+-- a frame's table is good, and its row is not refused
 unfoldable pub goodFrame : Arch → Region → Standing → Bool
 goodFrame a section s =
     goodTable a section (recordOf s)
     && notRefused (Reason.rowOf a (section ∷ []) (s .interrupted) (recordOf s) (pc (s .file)))
 
+-- that holds of each frame
 abbrev pub goodFrames : Arch → Region → List Standing → Bool
 goodFrames a section [] = true
 goodFrames a section (s ∷ ss) = goodFrame a section s && goodFrames a section ss

@@ -31,7 +31,7 @@ lookedAt t = if t .interrupted then t .pc else t .pc - 1
 abbrev pub thrown : Machine → Throw → List ℕ
 thrown m t = setPc (m .registers) (t .pc)
 
--- pc above 0, looked up in the innermost record; that frame is described
+-- the rules, one test a line: pc above 0; looked up in the innermost record; that frame is described
 abbrev pub throwable : Machine → Throw → List Open → Bool
 throwable m t [] = false
 throwable m t (f ∷ fs) =
@@ -39,6 +39,7 @@ throwable m t (f ∷ fs) =
     && holds (f .entry .function) (lookedAt t)
     && described (numbers (m .arch)) (m .section) f (thrown m t) (t .interrupted) (lookedAt t)
 
+-- a throw or interrupt is within the rules
 unfoldable pub throwAllowed : Machine → Throw → Bool
 throwAllowed m t = throwable m t (m .frames)
 

@@ -30,7 +30,7 @@ frame0 file at interrupted = record { number = 0; interrupted = interrupted; fil
 unfoldable pub raise : Lent → ℕ → List ℕ → ℕ → Bool → Outcome Searched
 raise l arch file at interrupted = opened l arch (search arch (l .regions) (frame0 file at interrupted))
 
--- an unwinding at a frame, with nothing chosen, and with a frame chosen
+-- an unwinding at a frame, with nothing chosen
 abbrev pub unchosen : Frame → ℕ → Unwinding
 unchosen f exception =
     record {
@@ -43,6 +43,7 @@ unchosen f exception =
       «chosen_sp» = 0;
     }
 
+-- an unwinding at a frame, with a frame chosen by its number and sp
 abbrev pub choosing : Frame → ℕ → ℕ → ℕ → Unwinding
 choosing f exception number sp =
     record {
@@ -62,10 +63,11 @@ raised f exception (Answer (Chosen number sp)) = choosing f exception number sp
 raised f exception (Answer Stopped) = unchosen f exception
 raised f exception (Answer Ended) = unchosen f exception
 
--- the frame that comes next, and the chosen one
+-- the frame that comes next
 abbrev pub frameOf : Unwinding → Frame
 frameOf u = record { number = u .number; interrupted = u .interrupted; file = u .regs .r }
 
+-- the chosen frame
 abbrev pub choiceOf : Unwinding → Choice
 choiceOf u = record { number = u .«chosen_number»; sp = u .«chosen_sp» }
 

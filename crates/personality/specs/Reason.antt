@@ -61,6 +61,7 @@ pub record Reason : Type 0 where
   pub code : ℕ
   pub file : List ℕ
 
+-- the reason with this code and file
 abbrev pub reason : ℕ → List ℕ → Reason
 reason code file = record { code = code; file = file }
 
@@ -71,10 +72,11 @@ installed a exception start pad file = do
   two ← set a one 1 0
   Answer (reason installContext (setPc two (sum start pad)))
 
--- search: none or cleanup 8, catch 6, terminate 3
+-- the code of an action in the search phase: cleanup 8, catch 6, terminate 3
 unfoldable pub searchedCode : ℕ → ℕ
 searchedCode action = if eqb action cleanup then continueUnwind else if eqb action catch then handlerFound else fatalPhase1
 
+-- search: none or cleanup 8, catch 6, terminate 3; the file stays
 abbrev pub searched : Found → List ℕ → Outcome Reason
 searched None file = Answer (reason continueUnwind file)
 searched (Pad pad action) file = Answer (reason (searchedCode action) file)

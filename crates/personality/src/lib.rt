@@ -1,6 +1,6 @@
 // The reasons of the built-in personality: ps-unwind's `personality`, by value.
-// `personality` refuses with 28 first. `row_of`, `installed` and `decide` are for the crates above, which have tested what is
-// lent and the architecture: there any other number stands for 2.
+// `personality` refuses with 28 first. `rowless` and `row_of` are for the crates above, which have tested what is lent and the
+// architecture: there any other number stands for 2.
 ghost use mathlib.Core.Path.{_≡_};
 ghost use Rattle.mem.specs.Memory.{lent};
 ghost use Rattle.arch.specs.Arch.{numbers};
@@ -141,7 +141,7 @@ pub fn row_of<'a>(
 }
 
 // The landing pad's file.
-pub fn installed(arch: u8, exception: usize, start: usize, pad: usize, mut regs: Regs) -> Decided
+fn installed(arch: u8, exception: usize, start: usize, pad: usize, mut regs: Regs) -> Decided
     ensures { λ r. ⌜ r ≡ decided regs (Spec.installed (numbers arch) exception start pad (regs .r)) ⌝ }
 {
     regs.r[DATA_REG0] = exception;
@@ -212,7 +212,7 @@ fn meant(phase: Phase, arch: u8, exception: usize, start: usize, row: Row, regs:
 }
 
 // The reason of a frame.
-pub fn decide<'a>(
+fn decide<'a>(
     section: &'a [u8],
     section_base: usize,
     stack: &'a [u8],

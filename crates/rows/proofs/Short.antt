@@ -16,7 +16,7 @@ use Rattle.leb.proofs.Reader.{byte-loaded}
 use Rattle.rows.specs.Row.{Found, None, checked}
 use Rattle.rows.specs.Handler2.{uleb, matched, rowsFrom}
 use Rattle.rows.specs.Held.{alone}
-use Rattle.rows.specs.Answers.{Says, worded}
+use Rattle.rows.specs.Answers.{NumberOf, worded}
 use Rattle.rows.specs.declared.handler2.Short.{Short}
 use Rattle.rows.specs.declared.handler2.Short.the-variants as short-case
 use Rattle.rows.proofs.Held.{word-more}
@@ -32,8 +32,8 @@ pub unsettled : {A : Type 0} (w : ℕ) → w ≡ 2 ^ 33 → (w ≡ 2 ^ 33 → �
 unsettled w e n = absurd (n e)
 
 -- a number that was read is the one there
-pub said : (s : Short) (o : Outcome Read) (v next : ℕ) → Says s o → s ≡ short-case.Is v next → Answer (record { value = v; next = next }) ≡ o
-said s o v next x e = subst (λ (k : Short). Says k o) e x
+pub said : (s : Short) (o : Outcome Read) (v next : ℕ) → NumberOf s o → s ≡ short-case.Is v next → Answer (record { value = v; next = next }) ≡ o
+said s o v next x e = subst (λ (k : Short). NumberOf k o) e x
 
 -- a byte of the section
 module _ (section : List ℕ) (base limit : ℕ) (inside : limit ≤ base + length section) where

@@ -41,15 +41,15 @@ abbrev pub Within : ℕ → Step → Type 0
 Within ret (Ends row) = Unit
 Within ret (On pos at) = at ≤ ret
 
--- a short number is the one there; a long one says nothing
-abbrev pub Says : Short → Outcome Read → Type 0
-Says (short-case.Is v next) o = Answer (record { value = v; next = next }) ≡ o
-Says short-case.Long o = Unit
+-- a short number is the one there; of a long one nothing is said
+abbrev pub NumberOf : Short → Outcome Read → Type 0
+NumberOf (short-case.Is v next) o = Answer (record { value = v; next = next }) ≡ o
+NumberOf short-case.Long o = Unit
 
 -- the row of a word, none for 2^32
 abbrev pub worded : ℕ → Outcome Found
 worded w = if eqb w (2 ^ 32) then Answer None else checked (w / 4) (w % 4)
 
--- a word is that of the row; 2^33 says nothing
-abbrev pub Settles : ℕ → Outcome Found → Type 0
-Settles w o = (w ≡ 2 ^ 33 → ⊥) → worded w ≡ o
+-- a word is that of the row; of 2^33 nothing is said
+abbrev pub WordOf : ℕ → Outcome Found → Type 0
+WordOf w o = (w ≡ 2 ^ 33 → ⊥) → worded w ≡ o

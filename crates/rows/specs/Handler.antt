@@ -17,6 +17,7 @@ pub record Entry : Type 0 where
   pub pad : ℕ
   pub action : ℕ
 
+-- the row with these numbers
 abbrev pub row : ℕ → ℕ → ℕ → Entry
 row offset pad action = record { offset = offset; pad = pad; action = action }
 

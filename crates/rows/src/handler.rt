@@ -21,13 +21,13 @@ use mem::opening;
 use mem::wrapping;
 
 // A row as it stands in the table (return offset, pad, action), or no memory there.
-pub enum Entry {
+enum Entry {
     Is(usize, usize, usize),
     Outside,
 }
 
 // Whether a neighbour breaks the order of rows, or no memory there.
-pub enum Order {
+enum Order {
     Keeps,
     Breaks,
     Outside,
@@ -43,7 +43,10 @@ fn entry_at<'a>(
     i: usize,
 ) -> Entry
     requires { ⌜ i < 2 ^ 32 ⌝ }
-    ensures { λ r. ⌜ entry r ≡ Handler.entryAt (lent (now (section .entry)) «section_base» (now (stack .entry)) «stack_base» .regions) table i ⌝ }
+    ensures { λ r. ⌜
+        entry r ≡
+        Handler.entryAt (lent (now (section .entry)) «section_base» (now (stack .entry)) «stack_base» .regions) table i
+        ⌝ }
 {
     let offset_at = wrapping::add(table, 4 + 12 * i);
     let Word::Value(offset) = load::load_u32(section, section_base, stack, stack_base, offset_at)
@@ -73,7 +76,11 @@ fn left_breaks<'a>(
     offset: usize,
 ) -> Order
     requires { ⌜ i < 2 ^ 32 ⌝ }
-    ensures { λ r. ⌜ breaks r ≡ Handler.leftBreaks (lent (now (section .entry)) «section_base» (now (stack .entry)) «stack_base» .regions) table i offset ⌝ }
+    ensures { λ r. ⌜
+        breaks r ≡
+        Handler.leftBreaks (lent (now (section .entry)) «section_base» (now (stack .entry)) «stack_base» .regions)
+        table i offset
+        ⌝ }
 {
     if i == 0 {
         return Order::Keeps;
@@ -100,7 +107,11 @@ fn right_breaks<'a>(
     offset: usize,
 ) -> Order
     requires { ⌜ (i < count) × (count < 2 ^ 32) ⌝ }
-    ensures { λ r. ⌜ breaks r ≡ Handler.rightBreaks (lent (now (section .entry)) «section_base» (now (stack .entry)) «stack_base» .regions) table count i offset ⌝ }
+    ensures { λ r. ⌜
+        breaks r ≡
+        Handler.rightBreaks (lent (now (section .entry)) «section_base» (now (stack .entry)) «stack_base» .regions)
+        table count i offset
+        ⌝ }
 {
     if i + 1 < count {
         let Entry::Is(right, _, _) = entry_at(
@@ -137,7 +148,8 @@ fn judged<'a>(
     requires { ⌜ (i < count) × (count < 2 ^ 32) ⌝ }
     ensures { λ r. ⌜
         found r ≡
-        Handler.judged (lent (now (section .entry)) «section_base» (now (stack .entry)) «stack_base» .regions) table count i (Handler.row offset pad action)
+        Handler.judged (lent (now (section .entry)) «section_base» (now (stack .entry)) «stack_base» .regions)
+        table count i (Handler.row offset pad action)
         ⌝ }
 {
     match left_breaks(section, section_base, stack, stack_base, table, i, offset) {
@@ -171,7 +183,10 @@ fn handler_anywhere<'a>(
     table: usize,
     ret: usize,
 ) -> Row
-    ensures { λ r. ⌜ found r ≡ Handler.handler (lent (now (section .entry)) «section_base» (now (stack .entry)) «stack_base» .regions) table ret ⌝ }
+    ensures { λ r. ⌜
+        found r ≡
+        Handler.handler (lent (now (section .entry)) «section_base» (now (stack .entry)) «stack_base» .regions) table ret
+        ⌝ }
 {
     let Word::Value(count) = load::load_u32(section, section_base, stack, stack_base, table) else {
         return Row::Refused(OUTSIDE_MEMORY);
@@ -274,7 +289,10 @@ fn right_breaks_in(
     offset: usize,
 ) -> bool
     requires { ⌜ RowAt (now section) base table count k offset ⌝ }
-    ensures { λ r. ⌜ Answer r ≡ Handler.rightBreaks (alone (now (section .entry)) base) table count (number base table k) offset ⌝ }
+    ensures { λ r. ⌜
+        Answer r ≡
+        Handler.rightBreaks (alone (now (section .entry)) base) table count (number base table k) offset
+        ⌝ }
 {
     let last = (k + 12 == table - base + 4 + 12 * count) as usize;
     u32_at(section, k + 12 - 12 * last) + last <= offset
@@ -301,7 +319,8 @@ fn judged_in(
     checked(u32_at(section, k + 4), u32_at(section, k + 8))
 }
 
-// The row of a return offset in the table. The rows left are n from offset at on. Which half the row is in is not branched on.
+// The row of a return offset in the table. The rows left are n from offset at on. The `if` that chooses the half has no `else`, and
+// compiles to a conditional move.
 fn handler_in(section: &[u8], base: usize, table: usize, ret: usize) -> Row
     requires { ⌜ Held (now section) base table ⌝ }
     ensures { λ r. ⌜ found r ≡ Handler.handler (alone (now (section .entry)) base) table ret ⌝ }
@@ -334,7 +353,10 @@ pub fn handler_at<'a>(
     table: usize,
     ret: usize,
 ) -> Row
-    ensures { λ r. ⌜ found r ≡ Handler.handler (lent (now (section .entry)) «section_base» (now (stack .entry)) «stack_base» .regions) table ret ⌝ }
+    ensures { λ r. ⌜
+        found r ≡
+        Handler.handler (lent (now (section .entry)) «section_base» (now (stack .entry)) «stack_base» .regions) table ret
+        ⌝ }
 {
     if is_held(section, section_base, table) {
         return handler_in(section, section_base, table, ret);
@@ -351,7 +373,10 @@ pub fn handler<'a>(
     table: usize,
     ret: u32,
 ) -> Row
-    ensures { λ r. ⌜ found r ≡ Handler.handlerIn (lent (now (section .entry)) «section_base» (now (stack .entry)) «stack_base») table ret ⌝ }
+    ensures { λ r. ⌜
+        found r ≡
+        Handler.handlerIn (lent (now (section .entry)) «section_base» (now (stack .entry)) «stack_base») table ret
+        ⌝ }
 {
     if !opening::opens(section, section_base, stack, stack_base) {
         return Row::Refused(BAD_OPENING);

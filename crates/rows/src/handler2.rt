@@ -6,7 +6,7 @@ ghost use Rattle.mem.specs.Memory.{Memory, lent};
 ghost use Rattle.leb.specs.Reader.{told};
 ghost use Rattle.rows.specs.Row.{found};
 ghost use Rattle.rows.specs.Handler2 as Handler2;
-ghost use Rattle.rows.specs.Answers.{after, Within, Says, worded, Settles};
+ghost use Rattle.rows.specs.Answers.{after, Within, NumberOf, worded, WordOf};
 ghost use Rattle.rows.specs.Held.{first, alone};
 use crate::Row;
 use crate::checked;
@@ -17,7 +17,7 @@ use leb::Number;
 use mem::opening;
 
 // What a row comes to: the answer, or the position of the next row and the return offset so far.
-pub enum Step {
+enum Step {
     Ends(Row),
     On(usize, usize),
 }
@@ -31,7 +31,10 @@ fn number<'a>(
     limit: usize,
     pos: usize,
 ) -> Number
-    ensures { λ r. ⌜ told r ≡ Handler2.uleb (lent (now (section .entry)) «section_base» (now (stack .entry)) «stack_base» .regions) limit pos ⌝ }
+    ensures { λ r. ⌜
+        told r ≡
+        Handler2.uleb (lent (now (section .entry)) «section_base» (now (stack .entry)) «stack_base» .regions) limit pos
+        ⌝ }
 {
     leb::folded(cursor::uleb_from(section, section_base, stack, stack_base, pos, limit))
 }
@@ -47,7 +50,11 @@ fn matched<'a>(
     pos: usize,
     word: usize,
 ) -> Row
-    ensures { λ r. ⌜ found r ≡ Handler2.matched (lent (now (section .entry)) «section_base» (now (stack .entry)) «stack_base» .regions) limit left pos word ⌝ }
+    ensures { λ r. ⌜
+        found r ≡
+        Handler2.matched (lent (now (section .entry)) «section_base» (now (stack .entry)) «stack_base» .regions)
+        limit left pos word
+        ⌝ }
 {
     if left == 0 {
         return checked(word / 4, word % 4);
@@ -78,7 +85,13 @@ fn decide<'a>(
     next: usize,
 ) -> Step
     requires { ⌜ (at ≤ ret) × (ret < 2 ^ 32) × (delta < 2 ^ 32) ⌝ }
-    ensures { λ r. ⌜ after (lent (now (section .entry)) «section_base» (now (stack .entry)) «stack_base» .regions) limit ret left r ≡ Handler2.decide (lent (now (section .entry)) «section_base» (now (stack .entry)) «stack_base» .regions) limit ret left at delta word next (Handler2.rowsFrom left (lent (now (section .entry)) «section_base» (now (stack .entry)) «stack_base» .regions) limit next (at + delta) ret) ⌝ }
+    ensures { λ r. ⌜
+        after (lent (now (section .entry)) «section_base» (now (stack .entry)) «stack_base» .regions) limit ret left r ≡
+        Handler2.decide (lent (now (section .entry)) «section_base» (now (stack .entry)) «stack_base» .regions)
+        limit ret left at delta word next
+        (Handler2.rowsFrom left (lent (now (section .entry)) «section_base» (now (stack .entry)) «stack_base» .regions)
+        limit next (at + delta) ret)
+        ⌝ }
     ensures { λ r. ⌜ Within ret r ⌝ }
 {
     if delta == 0 {
@@ -116,7 +129,11 @@ fn next_row<'a>(
     at: usize,
 ) -> Step
     requires { ⌜ (at ≤ ret) × (ret < 2 ^ 32) ⌝ }
-    ensures { λ r. ⌜ after (lent (now (section .entry)) «section_base» (now (stack .entry)) «stack_base» .regions) limit ret left r ≡ Handler2.rowsFrom (suc left) (lent (now (section .entry)) «section_base» (now (stack .entry)) «stack_base» .regions) limit pos at ret ⌝ }
+    ensures { λ r. ⌜
+        after (lent (now (section .entry)) «section_base» (now (stack .entry)) «stack_base» .regions) limit ret left r ≡
+        Handler2.rowsFrom (suc left) (lent (now (section .entry)) «section_base» (now (stack .entry)) «stack_base» .regions)
+        limit pos at ret
+        ⌝ }
     ensures { λ r. ⌜ Within ret r ⌝ }
 {
     match number(section, section_base, stack, stack_base, limit, pos) {
@@ -157,7 +174,11 @@ fn handler2_anywhere<'a>(
     limit: usize,
     ret: u32,
 ) -> Row
-    ensures { λ r. ⌜ found r ≡ Handler2.handler2 (lent (now (section .entry)) «section_base» (now (stack .entry)) «stack_base» .regions) table limit ret ⌝ }
+    ensures { λ r. ⌜
+        found r ≡
+        Handler2.handler2 (lent (now (section .entry)) «section_base» (now (stack .entry)) «stack_base» .regions)
+        table limit ret
+        ⌝ }
 {
     match number(section, section_base, stack, stack_base, limit, table) {
         Number::Refused(n) => Row::Refused(n),
@@ -186,7 +207,11 @@ fn among<'a>(
     first: usize,
 ) -> Row
     requires { ⌜ ret < 2 ^ 32 ⌝ }
-    ensures { λ r. ⌜ found r ≡ Handler2.rowsFrom rows (lent (now (section .entry)) «section_base» (now (stack .entry)) «stack_base» .regions) limit first 0 ret ⌝ }
+    ensures { λ r. ⌜
+        found r ≡
+        Handler2.rowsFrom rows (lent (now (section .entry)) «section_base» (now (stack .entry)) «stack_base» .regions)
+        limit first 0 ret
+        ⌝ }
 {
     let mut left = rows;
     let mut pos = first;
@@ -232,7 +257,7 @@ enum Short {
 // The number at a position in the section.
 fn number_in(section: &[u8], base: usize, limit: usize, pos: usize) -> Short
     requires { ⌜ (base ≤ pos) × (limit ≤ base + length (now section)) ⌝ }
-    ensures { λ r. ⌜ Says r (Handler2.uleb (alone (now (section .entry)) base) limit pos) ⌝ }
+    ensures { λ r. ⌜ NumberOf r (Handler2.uleb (alone (now (section .entry)) base) limit pos) ⌝ }
 {
     if limit <= pos {
         return Short::Long;
@@ -270,7 +295,7 @@ fn matched_in(
     word: usize,
 ) -> usize
     requires { ⌜ (base ≤ pos) × (limit ≤ base + length (now section)) × (word < 2 ^ 32) ⌝ }
-    ensures { λ r. ⌜ Settles r (Handler2.matched (alone (now (section .entry)) base) limit more pos word) ⌝ }
+    ensures { λ r. ⌜ WordOf r (Handler2.matched (alone (now (section .entry)) base) limit more pos word) ⌝ }
 {
     if more == 0 {
         return word;
@@ -294,7 +319,7 @@ fn among_in(
     first: usize,
 ) -> usize
     requires { ⌜ (base ≤ first) × (limit ≤ base + length (now section)) × (ret < 2 ^ 32) ⌝ }
-    ensures { λ r. ⌜ Settles r (Handler2.rowsFrom rows (alone (now (section .entry)) base) limit first 0 ret) ⌝ }
+    ensures { λ r. ⌜ WordOf r (Handler2.rowsFrom rows (alone (now (section .entry)) base) limit first 0 ret) ⌝ }
 {
     let mut left = rows;
     let mut pos = first;
@@ -326,7 +351,7 @@ fn among_in(
 fn handler2_in(section: &[u8], base: usize, table: usize, limit: usize, ret: usize) -> usize
     requires { ⌜ ret < 2 ^ 32 ⌝ }
     ensures { λ r. ⌜
-        ((rest : Memory) → Settles r (Handler2.handler2 (first (now (section .entry)) base rest) table limit ret))
+        ((rest : Memory) → WordOf r (Handler2.handler2 (first (now (section .entry)) base rest) table limit ret))
         ⌝ }
 {
     if table < base {
@@ -364,7 +389,11 @@ pub fn handler2_at<'a>(
     limit: usize,
     ret: u32,
 ) -> Row
-    ensures { λ r. ⌜ found r ≡ Handler2.handler2 (lent (now (section .entry)) «section_base» (now (stack .entry)) «stack_base» .regions) table limit ret ⌝ }
+    ensures { λ r. ⌜
+        found r ≡
+        Handler2.handler2 (lent (now (section .entry)) «section_base» (now (stack .entry)) «stack_base» .regions)
+        table limit ret
+        ⌝ }
 {
     let word = handler2_in(section, section_base, table, limit, ret as usize);
     if word == UNSETTLED {
@@ -383,7 +412,10 @@ pub fn handler2<'a>(
     limit: usize,
     ret: u32,
 ) -> Row
-    ensures { λ r. ⌜ found r ≡ Handler2.handler2In (lent (now (section .entry)) «section_base» (now (stack .entry)) «stack_base») table limit ret ⌝ }
+    ensures { λ r. ⌜
+        found r ≡
+        Handler2.handler2In (lent (now (section .entry)) «section_base» (now (stack .entry)) «stack_base») table limit ret
+        ⌝ }
 {
     if !opening::opens(section, section_base, stack, stack_base) {
         return Row::Refused(BAD_OPENING);

@@ -34,7 +34,7 @@ pub fn is_valid(pad: usize, action: usize) -> bool
 }
 
 // A row that was found, or 18.
-pub fn checked(pad: usize, action: usize) -> Row
+fn checked(pad: usize, action: usize) -> Row
     ensures { λ r. ⌜ Spec.found r ≡ Spec.checked pad action ⌝ }
 {
     if is_valid(pad, action) {

@@ -1,4 +1,4 @@
--- The stories hold.
+-- The scenarios hold.
 pub mod Rules
 pub mod Runs
 pub mod Hold

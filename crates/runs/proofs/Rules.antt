@@ -10,7 +10,7 @@ use Rattle.lookup.specs.Tables.{Entry, records, named}
 use Rattle.model.specs.Machine.{Open, Machine}
 use Rattle.model.specs.Event.{Event, Call, Spill, Change, Reload, Move, Write, call, spill, change, reload, move, step, steps}
 use Rattle.model.specs.Event.{callAllowed, spillAllowed, changeAllowed, reloadAllowed}
-use Rattle.runs.specs.Story.{isThere, innermost, within, Told, does, against, events, lawful, toldRight}
+use Rattle.runs.specs.Scenario.{isThere, innermost, within, Labelled, does, against, events, allowedOnly, labelsRight}
 
 -- one that is not leaves the machine as it was
 pub against-leaves : (m : Machine) (e : Event) → within m e ≡ false → step m e ≡ m
@@ -42,9 +42,9 @@ against-leaves m (Move to) h = go (m .frames) h
 against-leaves m (Write x v) h = rw h
 
 -- then those against the rules might as well not be there
-pub lawful-same : (m : Machine) (ts : List Told) → toldRight m ts ≡ true → steps m (events ts) ≡ steps m (lawful ts)
-lawful-same m [] h = refl
-lawful-same m (does e ∷ ts) h = lawful-same (step m e) ts (both (within m e) (toldRight (step m e) ts) h .1)
-lawful-same m (against e ∷ ts) h =
-    let (refused, rest) = both (not (within m e)) (toldRight m ts) h in
-    ap (λ (n : Machine). steps n (events ts)) (against-leaves m e (not-true (within m e) refused)) ∙ lawful-same m ts rest
+pub allowed-same : (m : Machine) (ts : List Labelled) → labelsRight m ts ≡ true → steps m (events ts) ≡ steps m (allowedOnly ts)
+allowed-same m [] h = refl
+allowed-same m (does e ∷ ts) h = allowed-same (step m e) ts (both (within m e) (labelsRight (step m e) ts) h .1)
+allowed-same m (against e ∷ ts) h =
+    let (refused, rest) = both (not (within m e)) (labelsRight m ts) h in
+    ap (λ (n : Machine). steps n (events ts)) (against-leaves m e (not-true (within m e) refused)) ∙ allowed-same m ts rest

@@ -1,13 +1,15 @@
 -- The part of a closed run that is not mere computing. Assumes nothing.
-use mathlib.Core.Bool.{Bool, true, _&&_}
+use mathlib.Core.Bool.{Bool, true, false, _&&_}
 use mathlib.Core.List.{List, [], _∷_}
-use mathlib.Core.Logic.{inl}
-use mathlib.Core.Path.{_≡_, refl, sym, _∙_, ap}
+use mathlib.Core.Logic.{inl, inr}
+use mathlib.Core.Path.{_≡_, refl, sym, _∙_, ap, subst}
 use Prim.Native.Nat.{ℕ, zero, suc, _^_, _<_}
 use lib.Dec.{ltb, lit<}
 use lib.ListN.{length, getD}
 use borrow.Author.Tests.{ltb-true}
-use Rattle.failure.specs.Outcome.{Outcome, Answer}
+use Rattle.failure.specs.Choice.{if_then_else_}
+use Rattle.failure.specs.Outcome.{Outcome, Refused, Answer}
+use Rattle.failure.specs.Failure.{BadOpening}
 use Rattle.mem.specs.Memory.{Region, Memory, Bytes}
 use Rattle.mem.specs.Opening.{opens}
 use Rattle.mem.proofs.Tests.{both}
@@ -16,18 +18,54 @@ use Rattle.arch.specs.File.{columns}
 use Rattle.lookup.proofs.Tested.{soundTest, sound-tested}
 use Rattle.model.specs.declared.Unwinding.{Unwinding}
 use Rattle.model.specs.Search.{Searched}
-use Rattle.model.specs.Unwinding.{frame0, raised}
+use Rattle.model.specs.Cleanup.{Cleaned, Finished, clean}
+use Rattle.model.specs.Unwinding.{opened, frame0, raised, frameOf, choiceOf, resume}
 use Rattle.model.specs.Machine.{Machine, Fresh, memory, lentBy}
 use Rattle.model.specs.Throw.{Throw, throwAllowed, framesAt}
 use Rattle.model.specs.Sound.{goodFrames}
-use Rattle.model.specs.Expected.{LandingPad, Given, outcome, due, firstOf}
-use Rattle.model.specs.Demand.{answerOf, regular, currentBy, current, Admissible, unlessRefused, answers, raisedBy, unwindingOf}
-use Rattle.runs.specs.Story.{Story, reached, regulars, callsFor, Holds}
+use Rattle.model.specs.Expected.{LandingPad, Compared, outcome, due, firstOf}
+use Rattle.model.specs.Demand.{answerOf, regular, currentBy, current, IsRefused, Admissible, unlessRefused, answers, raisedBy, unwindingOf}
+use Rattle.runs.specs.Scenario.{Scenario, reached, regulars, handedBack, irregular, mixed, answersAfter, callsFor, Holds}
 
 -- regular sweep calls are a list that demand 3 speaks of
 pub regulars-admissible : (n : ℕ) (m : Machine) (u : Unwinding) → Admissible m u (regulars n m u)
 regulars-admissible zero m u = tt
 regulars-admissible (suc n) m u = (inl refl, regulars-admissible n m (current u (regular m u)))
+
+-- a call of architecture 3 is refused
+pub irregular-refused : (m : Machine) (u : Unwinding) → answerOf (irregular m u) ≡ Refused BadOpening
+unfolding answerOf resume opened isKnown
+irregular-refused m u = go (opens (lentBy m))
+  where
+    rest : Outcome Cleaned
+    rest = if u .chosen then clean 3 (memory m) (u .exception) (choiceOf u) (frameOf u) else Answer Finished
+
+    go : (b : Bool) → (if b then (if isKnown 3 then rest else Refused BadOpening) else Refused BadOpening) ≡ Refused BadOpening
+    go true = refl
+    go false = refl
+
+-- the current unwinding stays
+irregular-stays : (m : Machine) (u : Unwinding) → current u (irregular m u) ≡ u
+unfolding current
+irregular-stays m u = ap (currentBy u u) (irregular-refused m u)
+
+-- a list with such calls is one that demand 3 speaks of
+pub mixed-admissible : (n : ℕ) (m : Machine) (u : Unwinding) → Admissible m u (mixed n m u)
+mixed-admissible zero m u = (inr (subst IsRefused (sym (irregular-refused m u)) tt), tt)
+mixed-admissible (suc n) m u =
+    (
+      inr (subst IsRefused (sym (irregular-refused m u)) tt),
+      subst (λ (v : Unwinding). Admissible m v (regular m u ∷ mixed n m (current u (regular m u)))) (sym (irregular-stays m u))
+      (inl refl, mixed-admissible n m (current u (regular m u))),
+    )
+
+-- they change no answer
+pub mixed-same : (a : Arch) (n : ℕ) (m : Machine) (u : Unwinding) → answers a (mixed n m u) ≡ answers a (regulars n m u)
+mixed-same a zero m u = ap (λ (o : Outcome Cleaned). unlessRefused a o []) (irregular-refused m u)
+mixed-same a (suc n) m u =
+    ap (λ (o : Outcome Cleaned). unlessRefused a o (answers a (regular m u ∷ mixed n m (current u (regular m u)))))
+    (irregular-refused m u)
+    ∙ ap (unlessRefused a (answerOf (regular m u))) (mixed-same a n m (current u (regular m u)))
 
 -- every number is below a bound
 abbrev pub allBelow : ℕ → List ℕ → Bool
@@ -65,17 +103,17 @@ fresh-tested m empty wide values accepted bytes known =
     }
 
 -- what n regular sweep calls give, each computed once
-abbrev pub given : Arch → ℕ → Machine → Unwinding → List Given
-given a zero m u = []
-given a (suc n) m u = let o = answerOf (regular m u) in unlessRefused a o (given a n m (currentBy u u o))
+abbrev pub answersOnce : Arch → ℕ → Machine → Unwinding → List Compared
+answersOnce a zero m u = []
+answersOnce a (suc n) m u = let o = answerOf (regular m u) in unlessRefused a o (answersOnce a n m (currentBy u u o))
 
 -- they are their answers
-given-answers : (a : Arch) (n : ℕ) (m : Machine) (u : Unwinding) → answers a (regulars n m u) ≡ given a n m u
+once-answers : (a : Arch) (n : ℕ) (m : Machine) (u : Unwinding) → answers a (regulars n m u) ≡ answersOnce a n m u
 unfolding current
-given-answers a zero m u = refl
-given-answers a (suc n) m u = ap (unlessRefused a (answerOf (regular m u))) (given-answers a n m (current u (regular m u)))
+once-answers a zero m u = refl
+once-answers a (suc n) m u = ap (unlessRefused a (answerOf (regular m u))) (once-answers a n m (current u (regular m u)))
 
--- all that computing shows of a story: of the machine that it reaches and the throw there, if that answers so and n sweep calls follow
+-- all that computing shows of a scenario: of the machine that it reaches and the throw there, if that answers so and n sweep calls follow
 pub record Report : Type 0 where
   pub arch : ℕ
   pub section : Region
@@ -84,8 +122,9 @@ pub record Report : Type 0 where
   pub answered : Searched
   pub lands : List LandingPad
   pub raises : Outcome Searched
-  pub cleans : List Given
+  pub cleans : List Compared
 
+-- the report of a machine and a throw
 abbrev pub reportOf : Machine → Throw → Searched → ℕ → ℕ → Report
 reportOf m t answer n exception =
     record {
@@ -96,14 +135,15 @@ reportOf m t answer n exception =
       answered = outcome m t;
       lands = due m t;
       raises = raisedBy m t;
-      cleans = given (numbers (m .arch)) n m (raised (frame0 (m .registers) (t .pc) (t .interrupted)) exception (Answer answer));
+      cleans = answersOnce (numbers (m .arch)) n m (raised (frame0 (m .registers) (t .pc) (t .interrupted)) exception (Answer answer));
     }
 
--- the report of a story, and what it should be
-abbrev pub report : Story → ℕ → Report
+-- the report of a scenario
+abbrev pub report : Scenario → ℕ → Report
 report s exception = let m = reached s in reportOf m (s .throw) (s .answer) (callsFor s) exception
 
-abbrev pub expected : Story → Report
+-- what it should be
+abbrev pub expected : Scenario → Report
 expected s =
     record {
       arch = s .machine .arch;
@@ -116,8 +156,8 @@ expected s =
       cleans = firstOf (callsFor s) (s .landings);
     }
 
--- a story from a fresh machine with sound tables, whose report is as expected, holds
-pub holds-reported : (s : Story) → Fresh (s .machine) →
+-- a scenario from a fresh machine with sound tables, whose report is as expected, holds
+pub holds-reported : (s : Scenario) → Fresh (s .machine) →
     soundTest (s .machine .section .bytes) (s .machine .section .base) (s .machine .arch) ≡ true →
     ((exception : ℕ) → report s exception ≡ expected s) → Holds s
 unfolding unwindingOf
@@ -135,7 +175,11 @@ holds-reported s fresh tables e =
       answered = ap (λ (r : Report). r .answered) (e 0);
       lands = ap (λ (r : Report). r .lands) (e 0);
       raises = ap (λ (r : Report). r .raises) (e 0);
-      cleans = λ exception. rw (ap (λ (r : Report). r .raises) (e 0)) (cleaned exception);
+      cleans = answered;
+      refuses = irregular-refused (reached s);
+      admissible = λ exception. mixed-admissible (callsFor s) (reached s) (handedBack s exception);
+      cleansMixed = λ exception.
+          mixed-same (numbers (s .machine .arch)) (callsFor s) (reached s) (handedBack s exception) ∙ answered exception;
     }
   where
     begun : ℕ → Unwinding
@@ -145,5 +189,8 @@ holds-reported s fresh tables e =
         answers (numbers (s .machine .arch)) (regulars (callsFor s) (reached s) (begun exception)) ≡ firstOf (callsFor s) (s .landings)
     cleaned exception =
         ap (λ (x : ℕ). answers (numbers x) (regulars (callsFor s) (reached s) (begun exception))) (sym (ap (λ (r : Report). r .arch) (e 0)))
-        ∙ given-answers (numbers (reached s .arch)) (callsFor s) (reached s) (begun exception)
+        ∙ once-answers (numbers (reached s .arch)) (callsFor s) (reached s) (begun exception)
         ∙ ap (λ (r : Report). r .cleans) (e exception)
+
+    answered : (exception : ℕ) → answersAfter s exception (callsFor s) ≡ firstOf (callsFor s) (s .landings)
+    answered exception = rw (ap (λ (r : Report). r .raises) (e 0)) (cleaned exception)

@@ -1,4 +1,4 @@
--- Closed runs on aarch64: four stories, and what each comes to.
+-- Closed runs on aarch64: five scenarios, and what each comes to.
 use mathlib.Core.List.{List, [], _∷_, _++_}
 use Prim.Native.Nat.{ℕ, _+_}
 use lib.ListN.{replicate}
@@ -7,7 +7,7 @@ use Rattle.model.specs.Machine.{Machine}
 use Rattle.model.specs.Event.{Call, Spill, Change, Reload, Move, Write}
 use Rattle.model.specs.Throw.{Throw}
 use Rattle.model.specs.Expected.{LandingPad}
-use Rattle.runs.specs.Story.{Told, does, against, Story, throwAt, interruptAt, landing}
+use Rattle.runs.specs.Scenario.{Labelled, does, against, Scenario, throwAt, interruptAt, landing}
 
 -- the section, at address 1000 hexadecimal; its records by chunk and index, each as it is past its first
 -- instructions, with its rows by the addresses that calls return to:
@@ -16,6 +16,8 @@ use Rattle.runs.specs.Story.{Told, does, against, Story, throwAt, interr
 -- - 0 2, `plain`, [4080, 40c0): CFA = sp + 32, 30 in slot 1, 23 in slot 3; no table
 -- - 1 0, `old`, [4100, 4140), of version 1 and kind 2: CFA = sp + 32, 30 in slot 1, 72 in slot 2, 20 in slot 3; rows:
 --   4114 cleanup, 411c terminate
+-- - 1 1, `linked`, [4140, 4180), of version 1 and kind 1: CFA = fp + 16, 30 in slot 1, 29 in slot 2, 19 in slot 3; row: 4160 cleanup
+-- - 1 2, `leaf`, [4180, 41a0), of version 1: CFA = sp, the return address in 30; row: 4188 terminate
 abbrev pub section : List ℕ
 section =
     -- chunk 0: version 2, three records, 84 bytes
@@ -36,14 +38,24 @@ section =
     1 ∷ 68 ∷ 158 ∷ 1 ∷ 151 ∷ 3 ∷ 0 ∷
     -- up to the next multiple of 4
     0 ∷ 0 ∷
-    -- chunk 1: version 1, one record, 60 bytes
-    69 ∷ 75 ∷ 85 ∷ 87 ∷ 1 ∷ 1 ∷ 1 ∷ 0 ∷ 1 ∷ 0 ∷ 0 ∷ 0 ∷ 60 ∷ 0 ∷ 0 ∷ 0 ∷
+    -- chunk 1: version 1, three records, 124 bytes
+    69 ∷ 75 ∷ 85 ∷ 87 ∷ 1 ∷ 1 ∷ 1 ∷ 0 ∷ 3 ∷ 0 ∷ 0 ∷ 0 ∷ 124 ∷ 0 ∷ 0 ∷ 0 ∷
     -- `old`: start, length, frame word, handler offset
-    156 ∷ 48 ∷ 0 ∷ 0 ∷ 64 ∷ 0 ∷ 0 ∷ 0 ∷ 22 ∷ 32 ∷ 64 ∷ 0 ∷ 32 ∷ 0 ∷ 0 ∷ 0 ∷
+    156 ∷ 48 ∷ 0 ∷ 0 ∷ 64 ∷ 0 ∷ 0 ∷ 0 ∷ 22 ∷ 32 ∷ 64 ∷ 0 ∷ 64 ∷ 0 ∷ 0 ∷ 0 ∷
+    -- `linked`
+    204 ∷ 48 ∷ 0 ∷ 0 ∷ 64 ∷ 0 ∷ 0 ∷ 0 ∷ 9 ∷ 0 ∷ 96 ∷ 0 ∷ 92 ∷ 0 ∷ 0 ∷ 0 ∷
+    -- `leaf`
+    252 ∷ 48 ∷ 0 ∷ 0 ∷ 32 ∷ 0 ∷ 0 ∷ 0 ∷ 0 ∷ 0 ∷ 0 ∷ 0 ∷ 108 ∷ 0 ∷ 0 ∷ 0 ∷
     -- the rows of `old`
     2 ∷ 0 ∷ 0 ∷ 0 ∷
     20 ∷ 0 ∷ 0 ∷ 0 ∷ 36 ∷ 0 ∷ 0 ∷ 0 ∷ 0 ∷ 0 ∷ 0 ∷ 0 ∷
-    28 ∷ 0 ∷ 0 ∷ 0 ∷ 0 ∷ 0 ∷ 0 ∷ 0 ∷ 2 ∷ 0 ∷ 0 ∷ 0 ∷ []
+    28 ∷ 0 ∷ 0 ∷ 0 ∷ 0 ∷ 0 ∷ 0 ∷ 0 ∷ 2 ∷ 0 ∷ 0 ∷ 0 ∷
+    -- those of `linked`
+    1 ∷ 0 ∷ 0 ∷ 0 ∷
+    32 ∷ 0 ∷ 0 ∷ 0 ∷ 48 ∷ 0 ∷ 0 ∷ 0 ∷ 0 ∷ 0 ∷ 0 ∷ 0 ∷
+    -- those of `leaf`
+    1 ∷ 0 ∷ 0 ∷ 0 ∷
+    8 ∷ 0 ∷ 0 ∷ 0 ∷ 0 ∷ 0 ∷ 0 ∷ 0 ∷ 2 ∷ 0 ∷ 0 ∷ 0 ∷ []
 
 -- a fresh machine: most registers hold 1000 and their number, and 128 bytes of stack at 8000 end at sp
 abbrev pub start : Machine
@@ -59,10 +71,10 @@ start =
       frames = [];
     }
 
--- the story: `outer` calls itself, that one calls `old`, that one `framed`, that one `plain`. Two return addresses decide what comes of
--- it, and so are left open: where the second `outer` is returned to, and where `old` is
-abbrev pub story : ℕ → ℕ → List Told
-story caller old =
+-- the events: `outer` calls itself, that one calls `old`, that one `framed`, that one `plain`. Two return addresses decide what comes
+-- of them, and so are left open: where the second `outer` is returned to, and where `old` is
+abbrev pub eventsWith : ℕ → ℕ → List Labelled
+eventsWith caller old =
     -- no frame is open yet
     against (Call 0 9 0) ∷  -- there is no such record
     against (Call 0 0 0x4010) ∷  -- the first call returns to 0
@@ -134,23 +146,55 @@ landings number =
     219 ∷ 1020 ∷ 1021 ∷ 1022 ∷ 1023 ∷ 1024 ∷ 1025 ∷ 1026 ∷ 1027 ∷ 1028 ∷
     1029 ∷ 0x4010 ∷ 1072 ∷ 1073 ∷ 1074 ∷ 1075 ∷ 1076 ∷ 1077 ∷ 1078 ∷ 1079 ∷ []) ∷ []
 
--- the story to its end
-abbrev pub ends : List Told → Throw → Searched → List LandingPad → Story
-ends told throw answer landings = record { machine = start; told = told; throw = throw; answer = answer; landings = landings }
+-- a scenario from there
+abbrev pub ends : List Labelled → Throw → Searched → List LandingPad → Scenario
+ends labelled throw answer landings = record { machine = start; labelled = labelled; throw = throw; answer = answer; landings = landings }
 
 -- `plain` throws. It has no table and is passed over; `framed` and `old` clean up, and the second `outer` catches. The cleanup of the
 -- outermost frame is not due
-abbrev pub caught : Story
-caught = ends (story 0x4010 0x4114) (throwAt 0x4090) (Chosen 3 0x8060) (landings 1)
+abbrev pub caught : Scenario
+caught = ends (eventsWith 0x4010 0x4114) (throwAt 0x4090) (Chosen 3 0x8060) (landings 1)
 
 -- the call of `old` has a terminate row, which comes before the catch: 3, and nothing lands
-abbrev pub terminated : Story
-terminated = ends (story 0x4010 0x411c) (throwAt 0x4090) Stopped []
+abbrev pub terminated : Scenario
+terminated = ends (eventsWith 0x4010 0x411c) (throwAt 0x4090) Stopped []
 
 -- nobody catches: 5, and nothing lands, though four frames have cleanups
-abbrev pub uncaught : Story
-uncaught = ends (story 0x4018 0x4114) (throwAt 0x4090) Ended []
+abbrev pub uncaught : Scenario
+uncaught = ends (eventsWith 0x4018 0x4114) (throwAt 0x4090) Ended []
 
 -- `plain` calls `framed`, a frame of version 2, which is interrupted at its first instruction
-abbrev pub atEntry : Story
-atEntry = ends (story 0x4010 0x4114 ++ (does (Call 0 1 0x4094) ∷ [])) (interruptAt 0x4040) (Chosen 4 0x8060) (landings 2)
+abbrev pub atEntry : Scenario
+atEntry = ends (eventsWith 0x4010 0x4114 ++ (does (Call 0 1 0x4094) ∷ [])) (interruptAt 0x4040) (Chosen 4 0x8060) (landings 2)
+
+-- `outer` calls `linked`, that one `leaf`
+abbrev pub toLeaf : List Labelled
+toLeaf =
+    -- `outer`, with the CFA 8080
+    does (Call 0 0 0) ∷
+    does (Move 0x8070) ∷
+    does (Spill 30 1) ∷
+    does (Spill 19 2) ∷
+    does (Change 19 119) ∷
+    -- `linked`, with the CFA 8070
+    does (Call 1 1 0x4010) ∷
+    does (Spill 30 1) ∷
+    does (Spill 29 2) ∷
+    does (Spill 19 3) ∷
+    does (Change 29 0x8060) ∷
+    does (Change 19 219) ∷
+    does (Move 0x8050) ∷
+    -- `leaf`, with the CFA 8050
+    does (Call 1 2 0x4160) ∷ []
+
+-- `leaf`, a frame of version 1, is interrupted where its table has a terminate row: that row does not count. `linked`, of kind 1,
+-- cleans up, and `outer` catches
+abbrev pub inLeaf : Scenario
+inLeaf =
+    ends toLeaf (interruptAt 0x4188) (Chosen 2 0x8070) (
+    landing 1 0x8050 0x4170 (
+    219 ∷ 1020 ∷ 1021 ∷ 1022 ∷ 1023 ∷ 1024 ∷ 1025 ∷ 1026 ∷ 1027 ∷ 1028 ∷
+    0x8060 ∷ 0x4160 ∷ 1072 ∷ 1073 ∷ 1074 ∷ 1075 ∷ 1076 ∷ 1077 ∷ 1078 ∷ 1079 ∷ []) ∷
+    landing 2 0x8070 0x4030 (
+    119 ∷ 1020 ∷ 1021 ∷ 1022 ∷ 1023 ∷ 1024 ∷ 1025 ∷ 1026 ∷ 1027 ∷ 1028 ∷
+    1029 ∷ 0x4010 ∷ 1072 ∷ 1073 ∷ 1074 ∷ 1075 ∷ 1076 ∷ 1077 ∷ 1078 ∷ 1079 ∷ []) ∷ [])

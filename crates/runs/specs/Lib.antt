@@ -1,4 +1,4 @@
--- Stories of the call machine, on both architectures.
-pub mod Story
+-- Scenarios of the call machine, on both architectures.
+pub mod Scenario
 pub mod Aarch64
 pub mod X86

@@ -1,4 +1,4 @@
--- Closed runs on x86-64: four stories, and what each comes to.
+-- Closed runs on x86-64: five scenarios, and what each comes to.
 use mathlib.Core.List.{List, [], _∷_, _++_}
 use Prim.Native.Nat.{ℕ, _+_}
 use lib.ListN.{replicate}
@@ -7,7 +7,7 @@ use Rattle.model.specs.Machine.{Machine}
 use Rattle.model.specs.Event.{Call, Spill, Change, Reload, Move, Write}
 use Rattle.model.specs.Throw.{Throw}
 use Rattle.model.specs.Expected.{LandingPad}
-use Rattle.runs.specs.Story.{Told, does, against, Story, throwAt, interruptAt, landing}
+use Rattle.runs.specs.Scenario.{Labelled, does, against, Scenario, throwAt, interruptAt, landing}
 
 -- the section, at address 1000 hexadecimal; its records by chunk and index, each as it is past its first
 -- instructions, with its rows by the addresses that calls return to:
@@ -17,6 +17,7 @@ use Rattle.runs.specs.Story.{Told, does, against, Story, throwAt, interr
 -- - 1 0, `old`, [4100, 4140), of version 1 and kind 1: CFA = fp + 16, 16 in slot 1, 6 in slot 2, 14 in slot 3, 12 in slot 4; rows:
 --   4114 cleanup, 411c terminate
 -- - 1 1, `leaf`, [4140, 4160), of version 1: CFA = sp + 8, 16 in slot 1; row: 4148 terminate
+-- - 1 2, `unlinked`, [4160, 41a0), of version 1 and kind 2: CFA = sp + 32, 16 in slot 1, 3 in slot 2, 13 in slot 3; row: 4180 cleanup
 abbrev pub section : List ℕ
 section =
     -- chunk 0: version 2, three records, 80 bytes
@@ -35,19 +36,24 @@ section =
     1 ∷ 32 ∷ 192 ∷ 1 ∷
     -- the program of `plain`
     1 ∷ 66 ∷ 143 ∷ 2 ∷ 4 ∷ 68 ∷ 0 ∷
-    -- chunk 1: version 1, two records, 92 bytes
-    69 ∷ 75 ∷ 85 ∷ 87 ∷ 1 ∷ 2 ∷ 1 ∷ 0 ∷ 2 ∷ 0 ∷ 0 ∷ 0 ∷ 92 ∷ 0 ∷ 0 ∷ 0 ∷
+    -- chunk 1: version 1, three records, 124 bytes
+    69 ∷ 75 ∷ 85 ∷ 87 ∷ 1 ∷ 2 ∷ 1 ∷ 0 ∷ 3 ∷ 0 ∷ 0 ∷ 0 ∷ 124 ∷ 0 ∷ 0 ∷ 0 ∷
     -- `old`: start, length, frame word, handler offset
-    160 ∷ 48 ∷ 0 ∷ 0 ∷ 64 ∷ 0 ∷ 0 ∷ 0 ∷ 85 ∷ 0 ∷ 96 ∷ 0 ∷ 48 ∷ 0 ∷ 0 ∷ 0 ∷
+    160 ∷ 48 ∷ 0 ∷ 0 ∷ 64 ∷ 0 ∷ 0 ∷ 0 ∷ 85 ∷ 0 ∷ 96 ∷ 0 ∷ 64 ∷ 0 ∷ 0 ∷ 0 ∷
     -- `leaf`
-    208 ∷ 48 ∷ 0 ∷ 0 ∷ 32 ∷ 0 ∷ 0 ∷ 0 ∷ 0 ∷ 0 ∷ 0 ∷ 0 ∷ 76 ∷ 0 ∷ 0 ∷ 0 ∷
+    208 ∷ 48 ∷ 0 ∷ 0 ∷ 32 ∷ 0 ∷ 0 ∷ 0 ∷ 0 ∷ 0 ∷ 0 ∷ 0 ∷ 92 ∷ 0 ∷ 0 ∷ 0 ∷
+    -- `unlinked`
+    224 ∷ 48 ∷ 0 ∷ 0 ∷ 64 ∷ 0 ∷ 0 ∷ 0 ∷ 42 ∷ 0 ∷ 64 ∷ 0 ∷ 108 ∷ 0 ∷ 0 ∷ 0 ∷
     -- the rows of `old`
     2 ∷ 0 ∷ 0 ∷ 0 ∷
     20 ∷ 0 ∷ 0 ∷ 0 ∷ 36 ∷ 0 ∷ 0 ∷ 0 ∷ 0 ∷ 0 ∷ 0 ∷ 0 ∷
     28 ∷ 0 ∷ 0 ∷ 0 ∷ 0 ∷ 0 ∷ 0 ∷ 0 ∷ 2 ∷ 0 ∷ 0 ∷ 0 ∷
     -- those of `leaf`
     1 ∷ 0 ∷ 0 ∷ 0 ∷
-    8 ∷ 0 ∷ 0 ∷ 0 ∷ 0 ∷ 0 ∷ 0 ∷ 0 ∷ 2 ∷ 0 ∷ 0 ∷ 0 ∷ []
+    8 ∷ 0 ∷ 0 ∷ 0 ∷ 0 ∷ 0 ∷ 0 ∷ 0 ∷ 2 ∷ 0 ∷ 0 ∷ 0 ∷
+    -- those of `unlinked`
+    1 ∷ 0 ∷ 0 ∷ 0 ∷
+    32 ∷ 0 ∷ 0 ∷ 0 ∷ 48 ∷ 0 ∷ 0 ∷ 0 ∷ 0 ∷ 0 ∷ 0 ∷ 0 ∷ []
 
 -- a fresh machine: most registers hold 1000 and their number, and 144 bytes of stack at 8000 end at sp
 abbrev pub start : Machine
@@ -63,10 +69,10 @@ start =
       frames = [];
     }
 
--- the story: `outer` calls itself, that one calls `old`, that one `framed`, that one `plain`. Two return addresses decide what comes of
--- it, and so are left open: where the second `outer` is returned to, and where `old` is
-abbrev pub story : ℕ → ℕ → List Told
-story caller old =
+-- the events: `outer` calls itself, that one calls `old`, that one `framed`, that one `plain`. Two return addresses decide what comes
+-- of them, and so are left open: where the second `outer` is returned to, and where `old` is
+abbrev pub eventsWith : ℕ → ℕ → List Labelled
+eventsWith caller old =
     -- no frame is open yet
     against (Call 0 9 0) ∷  -- there is no such record
     against (Call 0 0 0x4010) ∷  -- the first call returns to 0
@@ -129,23 +135,48 @@ landings number =
     landing (number + 1) 0x8050 0x4124 (203 ∷ 0x8060 ∷ 112 ∷ 1013 ∷ 114 ∷ 1015 ∷ []) ∷
     landing (number + 2) 0x8070 0x4030 (203 ∷ 1006 ∷ 1012 ∷ 1013 ∷ 1014 ∷ 1015 ∷ []) ∷ []
 
--- the story to its end
-abbrev pub ends : List Told → Throw → Searched → List LandingPad → Story
-ends told throw answer landings = record { machine = start; told = told; throw = throw; answer = answer; landings = landings }
+-- a scenario from there
+abbrev pub ends : List Labelled → Throw → Searched → List LandingPad → Scenario
+ends labelled throw answer landings = record { machine = start; labelled = labelled; throw = throw; answer = answer; landings = landings }
 
 -- `plain` throws. It has no table and is passed over; `framed` and `old` clean up, and the second `outer` catches. The cleanup of the
 -- outermost frame is not due
-abbrev pub caught : Story
-caught = ends (story 0x4010 0x4114) (throwAt 0x4090) (Chosen 3 0x8070) (landings 1)
+abbrev pub caught : Scenario
+caught = ends (eventsWith 0x4010 0x4114) (throwAt 0x4090) (Chosen 3 0x8070) (landings 1)
 
 -- the call of `old` has a terminate row, which comes before the catch: 3, and nothing lands
-abbrev pub terminated : Story
-terminated = ends (story 0x4010 0x411c) (throwAt 0x4090) Stopped []
+abbrev pub terminated : Scenario
+terminated = ends (eventsWith 0x4010 0x411c) (throwAt 0x4090) Stopped []
 
 -- nobody catches: 5, and nothing lands, though four frames have cleanups
-abbrev pub uncaught : Story
-uncaught = ends (story 0x4018 0x4114) (throwAt 0x4090) Ended []
+abbrev pub uncaught : Scenario
+uncaught = ends (eventsWith 0x4018 0x4114) (throwAt 0x4090) Ended []
 
 -- `plain` calls `leaf`, a frame of version 1, which is interrupted where its table has a terminate row: that row does not count
-abbrev pub inLeaf : Story
-inLeaf = ends (story 0x4010 0x4114 ++ (does (Call 1 1 0x4094) ∷ [])) (interruptAt 0x4148) (Chosen 4 0x8070) (landings 2)
+abbrev pub inLeaf : Scenario
+inLeaf = ends (eventsWith 0x4010 0x4114 ++ (does (Call 1 1 0x4094) ∷ [])) (interruptAt 0x4148) (Chosen 4 0x8070) (landings 2)
+
+-- `outer` calls `unlinked`, that one `leaf`
+abbrev pub toLeaf : List Labelled
+toLeaf =
+    -- `outer`, with the CFA 8090
+    does (Call 0 0 0) ∷
+    does (Move 0x8080) ∷
+    does (Spill 3 2) ∷
+    does (Change 3 103) ∷
+    -- `unlinked`, with the CFA 8080
+    does (Call 1 2 0x4010) ∷
+    does (Spill 3 2) ∷
+    does (Spill 13 3) ∷
+    does (Change 3 203) ∷
+    does (Change 13 113) ∷
+    does (Move 0x8060) ∷
+    -- `leaf`, with the CFA 8060
+    does (Call 1 1 0x4180) ∷ []
+
+-- `leaf` is interrupted; `unlinked`, of kind 2, cleans up, and `outer` catches
+abbrev pub overUnlinked : Scenario
+overUnlinked =
+    ends toLeaf (interruptAt 0x4148) (Chosen 2 0x8080) (
+    landing 1 0x8060 0x4190 (203 ∷ 1006 ∷ 1012 ∷ 113 ∷ 1014 ∷ 1015 ∷ []) ∷
+    landing 2 0x8080 0x4030 (103 ∷ 1006 ∷ 1012 ∷ 1013 ∷ 1014 ∷ 1015 ∷ []) ∷ [])

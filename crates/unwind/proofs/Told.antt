@@ -10,7 +10,7 @@ use Rattle.model.specs.declared.Unwinding.{Unwinding}
 use Rattle.model.specs.Search.{Searched, Chosen, Stopped, Ended}
 use Rattle.model.specs.Cleanup.{Cleaned, Install, Fatal, Finished}
 use Rattle.model.specs.Unwinding.{frame0, raise, raised, resume}
-use Rattle.model.specs.Expected.{Given}
+use Rattle.model.specs.Expected.{Compared}
 use Rattle.model.specs.Call.{after, Gives, Promised}
 use Rattle.model.proofs.Promised.{promised}
 use Rattle.unwind.specs.Answers.{searched, raiseOf, raisedBy, resumedBy, cleaned, callNumber, unwoundBy}
@@ -26,7 +26,7 @@ told-search (Answer Stopped) = refl
 told-search (Answer Ended) = refl
 
 -- so does a call's, as it is compared
-told-call : (a : Arch) (u : Unwinding) (o : Outcome Cleaned) (g : Given) → Gives a o g → Gives a (cleaned (resumedBy u o)) g
+told-call : (a : Arch) (u : Unwinding) (o : Outcome Cleaned) (g : Compared) → Gives a o g → Gives a (cleaned (resumedBy u o)) g
 told-call a u (Refused n) g e = e
 told-call a u (Answer (Install number file next)) g e = e
 told-call a u (Answer Fatal) g e = e

@@ -27,10 +27,11 @@ use Rattle.unwind.specs.declared.ResumeAnswer.the-variants as resume
 use Rattle.unwind.specs.declared.Resumed.{Resumed}
 use Rattle.unwind.specs.declared.Unwound.{Unwound}
 
--- a frame as the code takes it
+-- a frame with these values
 abbrev pub frameWith : ℕ → Bool → List ℕ → Frame
 frameWith number interrupted file = record { number = number; interrupted = interrupted; file = file }
 
+-- a frame as the code takes it
 abbrev pub frameAt : ℕ → Bool → Regs → Frame
 frameAt number interrupted regs = frameWith number interrupted (regs .r)
 
@@ -85,13 +86,14 @@ resumedBy u o = record { answer = resumeOf o; regs = record { r = fileOf (u .reg
 abbrev pub unmoved : ResumeAnswer → Unwinding → Resumed
 unmoved answer u = record { answer = answer; regs = u .regs; unwinding = u }
 
--- the outcome that an answer tells of: for a landing with the file at the pad, and the frame that the unwinding goes on from
+-- the outcome of an answer: for a landing with the file at the pad and the frame that the unwinding goes on from
 abbrev pub cleanedAs : ResumeAnswer → List ℕ → Frame → Outcome Cleaned
 cleanedAs (resume.Install number) file next = Answer (Cleanup.Install number file next)
 cleanedAs resume.Fatal file next = Answer Cleanup.Fatal
 cleanedAs resume.Finished file next = Answer Cleanup.Finished
 cleanedAs (resume.Refused n) file next = Outcome.Refused n
 
+-- the outcome of what `resume` returns
 abbrev pub cleaned : Resumed → Outcome Cleaned
 cleaned r = cleanedAs (r .answer) (r .regs .r) (Unwinding.frameOf (r .unwinding))
 

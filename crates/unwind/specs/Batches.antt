@@ -24,11 +24,12 @@ pub data Passed : Type 0 where
   End : Passed
   Past : (start : ℕ) → Frame → Passed
 
--- a frame step, by what a walk gives
+-- what a walk gives of a frame step: the start of the record and the caller
 abbrev pub passedAs : Step → Passed
 passedAs Walk.End = End
 passedAs (Walk.Past r next) = Past (r .start) next
 
+-- a frame's step, by what a walk gives
 unfoldable pub given : ℕ → Memory → Frame → Outcome Passed
 given arch m f = frameStep arch m f >>= λ s. Answer (passedAs s)
 

@@ -92,15 +92,18 @@ pub data Seen : Type 0 where
   Rowless : Record → Frame → Seen
   WithRow : Frame → (start pad action : ℕ) → Seen
 
+-- a frame past its step whose row was asked for
 abbrev pub seenAs : Record → Frame → Found → Seen
 seenAs r next Found.None = Rowless r next
 seenAs r next (Found.Pad pad action) = WithRow next (r .start) pad action
 
+-- the row is found, with the record and the caller at hand
 abbrev pub rowSeen : ℕ → Memory → Frame → Record → Frame → Outcome Seen
 rowSeen arch m f r next = do
   row ← rowOf (numbers arch) m (f .interrupted) r (pc (f .file))
   Answer (seenAs r next row)
 
+-- a frame after its step: its row, if rows are asked for
 abbrev pub seenAt : Bool → ℕ → Memory → Frame → Step → Outcome Seen
 seenAt rows arch m f Walk.End = Answer End
 seenAt rows arch m f (Walk.Past r next) = if rows then rowSeen arch m f r next else Answer (Rowless r next)

@@ -52,12 +52,11 @@ irregular-stays m u = ap (currentBy u u) (irregular-refused m u)
 -- a list with such calls is one that demand 3 speaks of
 pub mixed-admissible : (n : ℕ) (m : Machine) (u : Unwinding) → Admissible m u (mixed n m u)
 mixed-admissible zero m u = (inr (subst IsRefused (sym (irregular-refused m u)) tt), tt)
-mixed-admissible (suc n) m u =
-    (
-      inr (subst IsRefused (sym (irregular-refused m u)) tt),
-      subst (λ (v : Unwinding). Admissible m v (regular m u ∷ mixed n m (current u (regular m u)))) (sym (irregular-stays m u))
+mixed-admissible (suc n) m u = (
+  inr (subst IsRefused (sym (irregular-refused m u)) tt),
+  subst (λ (v : Unwinding). Admissible m v (regular m u ∷ mixed n m (current u (regular m u)))) (sym (irregular-stays m u))
       (inl refl, mixed-admissible n m (current u (regular m u))),
-    )
+)
 
 -- they change no answer
 pub mixed-same : (a : Arch) (n : ℕ) (m : Machine) (u : Unwinding) → answers a (mixed n m u) ≡ answers a (regulars n m u)

@@ -1,6 +1,6 @@
 // The walk, the throw and the sweep (document 01, "Walk, throw and call machine").
 // `next_frame`, `walk`, `raise` and `resume` refuse with 28 first. The functions that they call take any architecture number: any but
-// 1 stands for 2 there.
+// 1 stands for 2 there, only lookup compares it with the chunk's.
 ghost use mathlib.Core.Path.{_≡_};
 ghost use mathlib.Core.Bool.{true, false, not, _&&_, _||_};
 ghost use Prim.Native.Nat.{_-_, _+_, _<_, _≤_};
@@ -612,7 +612,7 @@ fn meet_at<'a>(
     }
 }
 
-// A frame: its step, then its row if rows are asked for. It alone calls what it is made of, which is so compiled into it.
+// A frame: its step, then its row if rows are asked for. It is the only caller of its parts, so that the compiler puts them into it.
 fn meet<'a>(
     section: &'a [u8],
     section_base: usize,
@@ -1119,7 +1119,7 @@ fn going_on(unwinding: Unwinding, number: usize, interrupted: bool, regs: Regs) 
 }
 
 // An answer beside the unwinding that came in.
-fn kept(answer: ResumeAnswer, unwinding: Unwinding) -> Resumed
+fn unchanged(answer: ResumeAnswer, unwinding: Unwinding) -> Resumed
     ensures { λ r. ⌜ r ≡ unmoved answer unwinding ⌝ }
 {
     let regs = unwinding.regs;
@@ -1192,8 +1192,8 @@ fn clean<'a>(
                     unwinding: going_on(unwinding, number + 1, false, Regs { r: file }),
                 };
             }
-            Cleaning::Fatal => return kept(ResumeAnswer::Fatal, unwinding),
-            Cleaning::Refused(n) => return kept(ResumeAnswer::Refused(n), unwinding),
+            Cleaning::Fatal => return unchanged(ResumeAnswer::Fatal, unwinding),
+            Cleaning::Refused(n) => return unchanged(ResumeAnswer::Refused(n), unwinding),
         }
     }
 }
@@ -1213,13 +1213,13 @@ pub fn resume<'a>(
         ⌝ }
 {
     if !accepted(section, section_base, stack, stack_base, arch) {
-        return kept(ResumeAnswer::Refused(BAD_OPENING), unwinding);
+        return unchanged(ResumeAnswer::Refused(BAD_OPENING), unwinding);
     }
     if !unwinding.chosen {
-        return kept(ResumeAnswer::Finished, unwinding);
+        return unchanged(ResumeAnswer::Finished, unwinding);
     }
     if unwinding.chosen_number < unwinding.number {
-        return kept(ResumeAnswer::Finished, unwinding);
+        return unchanged(ResumeAnswer::Finished, unwinding);
     }
     clean(section, section_base, stack, stack_base, arch, unwinding)
 }
@@ -1269,8 +1269,8 @@ fn resume_nth<'a>(
     resume(section, section_base, stack, stack_base, arch, u)
 }
 
-// raise, then n + 1 calls of resume: the answers of the throw and of the last call. At a machine's throw they are those of document
-// 01's demand 3.
+// raise, then n + 1 calls of resume: the answers of the throw and of the last call. At a machine's throw they are those that document
+// 01's demand 3 asks of regular calls.
 pub fn unwind<'a>(
     section: &'a [u8],
     section_base: usize,

@@ -99,26 +99,26 @@ enum-told-2 : tie.Need-enum-told-2 Inv-loop μ-loop
 enum-told-2 c =
     search needs
 
-kept-requires : tie.Need-kept-requires Inv-loop μ-loop
-kept-requires c κs =
+unchanged-requires : tie.Need-unchanged-requires Inv-loop μ-loop
+unchanged-requires c κs =
     search needs
 
 returns-2 : tie.Need-returns-2 Inv-loop μ-loop
 returns-2 c =
-    c .kept .ensures ∙ cleaning-fatal _ _ _ _ (c .before .before .before .before .before .before .meet .last .1 .1 .1 .1 .1 .1 .1 .1 .0) (c .before .before .before .before .before .before .meet .result) (c .before .before .before .before .before .before .meet .ensures) _ _ refl _ (c .before .before .before .before .before .before .before .before .before .before .before .sp-column .ensures .0) refl _
+    c .unchanged .ensures ∙ cleaning-fatal _ _ _ _ (c .before .before .before .before .before .before .meet .last .1 .1 .1 .1 .1 .1 .1 .1 .0) (c .before .before .before .before .before .before .meet .result) (c .before .before .before .before .before .before .meet .ensures) _ _ refl _ (c .before .before .before .before .before .before .before .before .before .before .before .sp-column .ensures .0) refl _
     (c .before .before .before .clean-turn .ensures) (c .before .before .before .before .before .before .before .before .loop .inv) (c .before .enum-told2 .given .1)
 
 enum-known-n : tie.Need-enum-known-n Inv-loop μ-loop
 enum-known-n c =
     search needs
 
-kept-requires-2 : tie.Need-kept-requires-2 Inv-loop μ-loop
-kept-requires-2 c κs =
+unchanged-requires-2 : tie.Need-unchanged-requires-2 Inv-loop μ-loop
+unchanged-requires-2 c κs =
     search needs
 
 returns-3 : tie.Need-returns-3 Inv-loop μ-loop
 returns-3 c =
-    c .kept2 .ensures ∙ cleaning-refused _ _ _ _ (c .before .before .before .before .before .before .before .meet .last .1 .1 .1 .1 .1 .1 .1 .1 .0) (c .before .before .before .before .before .before .before .meet .result) (c .before .before .before .before .before .before .before .meet .ensures) _ _ refl _ (c .before .before .before .before .before .before .before .before .before .before .before .before .sp-column .ensures .0) refl _
+    c .unchanged2 .ensures ∙ cleaning-refused _ _ _ _ (c .before .before .before .before .before .before .before .meet .last .1 .1 .1 .1 .1 .1 .1 .1 .0) (c .before .before .before .before .before .before .before .meet .result) (c .before .before .before .before .before .before .before .meet .ensures) _ _ refl _ (c .before .before .before .before .before .before .before .before .before .before .before .before .sp-column .ensures .0) refl _
     (c .before .before .before .before .clean-turn .ensures) (c .before .before .before .before .before .before .before .before .before .loop .inv) _ (c .before .before .n .given .1)
 
 pub clean-spec : {M : Type 1} → statement M
@@ -143,8 +143,8 @@ clean-spec =
     going-on-requires
     returns
     enum-told-2
-    kept-requires
+    unchanged-requires
     returns-2
     enum-known-n
-    kept-requires-2
+    unchanged-requires-2
     returns-3)

@@ -10,34 +10,34 @@ use Rattle.unwind.proofs.resume.Tie as tie
 accepted-requires : tie.Need-accepted-requires
 accepted-requires c κs = search needs
 
-kept-requires : tie.Need-kept-requires
-kept-requires c κs = search needs
+unchanged-requires : tie.Need-unchanged-requires
+unchanged-requires c κs = search needs
 
 returns : tie.Need-returns
 returns c =
     let x = c .before .before .before .before .before .args in
     let l = lent (x .section .now) (x .section-base) (x .stack .now) (x .stack-base) in
-    c .kept .ensures ∙ resumed-28 l (x .arch) (x .unwinding) (sym (c .before .before .accepted .ensures) ∙ not-true _ (c .before .if1 .taken))
+    c .unchanged .ensures ∙ resumed-28 l (x .arch) (x .unwinding) (sym (c .before .before .accepted .ensures) ∙ not-true _ (c .before .if1 .taken))
 
-kept-requires-2 : tie.Need-kept-requires-2
-kept-requires-2 c κs = search needs
+unchanged-requires-2 : tie.Need-unchanged-requires-2
+unchanged-requires-2 c κs = search needs
 
 returns-2 : tie.Need-returns-2
 returns-2 c =
     let x = c .before .before .before .before .before .before .before .args in
     let l = lent (x .section .now) (x .section-base) (x .stack .now) (x .stack-base) in
-    c .kept2 .ensures ∙ resumed-unchosen l (x .arch) (x .unwinding)
+    c .unchanged2 .ensures ∙ resumed-unchosen l (x .arch) (x .unwinding)
     (sym (c .before .before .before .before .accepted .ensures) ∙ not-false _ (c .before .before .before .if1 .left))
     (not-true _ (c .before .if2 .taken))
 
-kept-requires-3 : tie.Need-kept-requires-3
-kept-requires-3 c κs = search needs
+unchanged-requires-3 : tie.Need-unchanged-requires-3
+unchanged-requires-3 c κs = search needs
 
 returns-3 : tie.Need-returns-3
 returns-3 c =
     let x = c .before .before .before .before .before .before .before .before .before .args in
     let l = lent (x .section .now) (x .section-base) (x .stack .now) (x .stack-base) in
-    c .kept3 .ensures ∙ resumed-finished l (x .arch) (x .unwinding)
+    c .unchanged3 .ensures ∙ resumed-finished l (x .arch) (x .unwinding)
     (sym (c .before .before .before .before .before .before .accepted .ensures) ∙ not-false _ (c .before .before .before .before .before .if1 .left))
     (not-false _ (c .before .before .before .if2 .left)) (c .before .if3 .taken)
 
@@ -57,11 +57,11 @@ resume-spec =
     tie.close
     (tie.spec
     accepted-requires
-    kept-requires
+    unchanged-requires
     returns
-    kept-requires-2
+    unchanged-requires-2
     returns-2
-    kept-requires-3
+    unchanged-requires-3
     returns-3
     clean-requires
     returns-4)

@@ -303,8 +303,8 @@ fn choice(first: bool, x: usize, y: usize) -> usize
     y
 }
 
-// The last record whose start is at most pc, if the starts rise; the first where none is. There are as many turns for every pc. Where
-// the next turn reads is known for both halves before this one has compared.
+// Where halving on start ends: if the starts rise, at the last record that starts at pc or below it, else at the first. There are as
+// many turns for every pc. Where the next turn reads is known for both halves before this one has compared.
 fn halve(part: &[u8], base: usize, c: Chunk, pc: usize) -> usize
     requires { ⌜ Inside (now part) c × (0 < c .count) ⌝ }
     ensures { λ r. ⌜ Stands c (halved (now (part .entry)) base c pc) r ⌝ }

@@ -2,8 +2,8 @@
 use std::hint::black_box;
 use std::time::Instant;
 
-/// How many inputs a case has. They are asked in turn, and are too many for a processor to learn the branches of each: a failed
-/// job is unwound once.
+/// How many inputs a case has. They are asked in turn; so many branches are hardly learned by a processor, as in a failed job, which
+/// is unwound once.
 pub const INPUTS: usize = 1 << 16;
 
 /// How many of them a case is timed with once more, again and again, for a host that asks the same ever anew. A processor may

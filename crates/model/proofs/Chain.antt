@@ -12,27 +12,26 @@ use Rattle.arch.specs.Arch.{Arch, numbers, isKnown, stripPac}
 use Rattle.arch.specs.File.{columns, sp, pc}
 use Rattle.lookup.specs.Field.{word}
 use Rattle.lookup.specs.Record.{holds}
-use Rattle.lookup.specs.Tables.{records}
 use Rattle.lookup.specs.Sound.{_∈_}
 use Rattle.frame.specs.Layout.{Pair}
 use Rattle.model.specs.FrameStep.{maxFrames, lookedUp}
-use Rattle.model.specs.Machine.{Open, Machine, lentBy, isRegister, value, address, inside}
+use Rattle.model.specs.Machine.{Open, Machine, callerInterrupted, lentBy, isRegister, value, address, inside, Tables, recordsOf, archOf}
 use Rattle.model.specs.Described.{isSpilled, described}
 
 -- an open frame by itself
-pub record Kept (arch : ℕ) (section : Region) (f : Open) : Type 0 where
+pub record Kept (ts : Tables) (f : Open) : Type 0 where
   -- its record is one of the section's
-  pub isRecord : f .entry ∈ records (section .bytes) (section .base) arch
+  pub isRecord : f .entry ∈ recordsOf ts
   -- its kept file is one, whose sp is the CFA, which is above 0
   pub wide : length (f .kept) ≡ columns
   pub below : (k : ℕ) → getD (f .kept) k 0 < 2 ^ 64
-  pub keptSp : sp (numbers arch) (f .kept) ≡ f .cfa
+  pub keptSp : sp (numbers (ts .arch)) (f .kept) ≡ f .cfa
   pub above : 0 < f .cfa
   -- its return register is spilled or preserved, and its kept value, stripped, is the kept pc
-  pub returns : (isSpilled (f .spilled) (numbers arch .ra) ≡ true) ⊎ (oneOf (numbers arch .ra) (numbers arch .preserved) ≡ true)
-  pub keptPc : stripPac (numbers arch) (value (numbers arch) (f .kept) (numbers arch .ra)) ≡ pc (f .kept)
+  pub returns : (isSpilled (f .spilled) (numbers (ts .arch) .ra) ≡ true) ⊎ (oneOf (numbers (ts .arch) .ra) (numbers (ts .arch) .preserved) ≡ true)
+  pub keptPc : stripPac (numbers (ts .arch)) (value (numbers (ts .arch)) (f .kept) (numbers (ts .arch) .ra)) ≡ pc (f .kept)
   -- what it spilled are registers
-  pub registers : (p : Pair) → List·Memᴰ p (f .spilled) → isRegister (numbers arch) (p .reg) ≡ true
+  pub registers : (p : Pair) → List·Memᴰ p (f .spilled) → isRegister (numbers (ts .arch)) (p .reg) ≡ true
 
 -- a frame's live slots lie in the stack and hold the kept values
 pub record Slot (a : Arch) (stack : Region) (f : Open) (p : Pair) : Type 0 where
@@ -47,36 +46,36 @@ AllLive a stack [] = Unit
 AllLive a stack (f ∷ fs) = Live a stack f × AllLive a stack fs
 
 -- a frame with its registers at its call; past the first its sp is strictly below its CFA
-pub record FrameAt (arch : ℕ) (section : Region) (first interrupted : Bool) (file : List ℕ) (f : Open) : Type 0 where
-  pub kept : Kept arch section f
+pub record FrameAt (ts : Tables) (first interrupted : Bool) (file : List ℕ) (f : Open) : Type 0 where
+  pub kept : Kept ts f
   pub called : 0 < pc file
   pub held : holds (f .entry .function) (lookedUp interrupted (pc file)) ≡ true
-  pub fits : described (numbers arch) section f file interrupted (lookedUp interrupted (pc file)) ≡ true
-  pub atMost : sp (numbers arch) file ≤ f .cfa
-  pub lower : first ≡ false → sp (numbers arch) file < f .cfa
+  pub fits : described ts f file interrupted (lookedUp interrupted (pc file)) ≡ true
+  pub atMost : sp (numbers (ts .arch)) file ≤ f .cfa
+  pub lower : first ≡ false → sp (numbers (ts .arch)) file < f .cfa
 
 -- frames, the first with these registers, every other with the kept file of the call that it made; the outermost returns to 0
-abbrev pub Chain : ℕ → Region → Bool → Bool → List ℕ → List Open → Type 0
-Chain arch section first interrupted file [] = pc file ≡ 0
-Chain arch section first interrupted file (f ∷ fs) =
-    FrameAt arch section first interrupted file f × Chain arch section false false (f .kept) fs
+abbrev pub Chain : Tables → Bool → Bool → List ℕ → List Open → Type 0
+Chain ts first interrupted file [] = pc file ≡ 0
+Chain ts first interrupted file (f ∷ fs) =
+    FrameAt ts first interrupted file f × Chain ts false (callerInterrupted f) (f .kept) fs
 
 -- the innermost frame is not yet called from: its sp is at most its CFA
-abbrev pub Inner : ℕ → Region → List ℕ → List Open → Type 0
-Inner arch section file [] = Unit
-Inner arch section file (f ∷ fs) =
-    Kept arch section f × ((sp (numbers arch) file ≤ f .cfa) × Chain arch section false false (f .kept) fs)
+abbrev pub Inner : Tables → List ℕ → List Open → Type 0
+Inner ts file [] = Unit
+Inner ts file (f ∷ fs) =
+    Kept ts f × ((sp (numbers (ts .arch)) file ≤ f .cfa) × Chain ts false (callerInterrupted f) (f .kept) fs)
 
 -- the invariant
 pub record Inv (m : Machine) : Type 0 where
-  pub known : isKnown (m .arch) ≡ true
+  pub known : isKnown (m .tables .arch) ≡ true
   pub accepted : opens (lentBy m) ≡ true
-  pub bytes : (k : ℕ) → getD (m .section .bytes) k 0 < 256
+  pub bytes : (k : ℕ) → getD (m .tables .section .bytes) k 0 < 256
   pub wide : length (m .registers) ≡ columns
   pub values : (k : ℕ) → getD (m .registers) k 0 < 2 ^ 64
   pub few : length (m .frames) ≤ maxFrames
-  pub live : AllLive (numbers (m .arch)) (m .stack) (m .frames)
-  pub inner : Inner (m .arch) (m .section) (m .registers) (m .frames)
+  pub live : AllLive (archOf m) (m .stack) (m .frames)
+  pub inner : Inner (m .tables) (m .registers) (m .frames)
 
 -- the unwinder's file agrees with the machine's on sp, pc and preserved registers
 pub record Agrees (a : Arch) (file′ file : List ℕ) : Type 0 where

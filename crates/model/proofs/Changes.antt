@@ -11,10 +11,10 @@ use borrow.Author.Tests.{eqb-true, eqb-false, ltb-true, leb-true, not-true}
 use Rattle.failure.specs.Choice.{if_then_else_}
 use Rattle.failure.specs.Failure.{oneOf}
 use Rattle.mem.proofs.Tests.{both}
-use Rattle.arch.specs.Arch.{Arch, numbers}
+use Rattle.arch.specs.Arch.{Arch}
 use Rattle.arch.specs.File.{pcColumn}
 use Rattle.frame.specs.Layout.{Pair}
-use Rattle.model.specs.Machine.{Open, Machine, column, isRegister, value}
+use Rattle.model.specs.Machine.{Open, Machine, column, isRegister, value, archOf}
 use Rattle.model.specs.Described.{isSpilled}
 use Rattle.model.specs.Event.{notSpNorPc, changeAllowed, reloadAllowed, unspilled, reloading, withRegisters, withFrames, change, reload, move}
 use Rattle.model.proofs.Chain.{Kept, AllLive, Inner, Inv}
@@ -48,12 +48,12 @@ unspilled-other (q ∷ ps) reg r other s =
 
 module _ (m : Machine) (f : Open) (fs : List Open) (here : m .frames ≡ f ∷ fs) (i : Inv m) where
   -- what the invariant says of the innermost frame
-  innermost : Inner (m .arch) (m .section) (m .registers) (f ∷ fs)
+  innermost : Inner (m .tables) (m .registers) (f ∷ fs)
   innermost = rw here at (i .inner)
 
   -- a column of the registers set, to at most the CFA where it is that of sp
   setting :
-      (k v : ℕ) → v < 2 ^ 64 → (numbers (m .arch) .sp ≡ k → v ≤ f .cfa) → Inv (withRegisters m (set (m .registers) k v))
+      (k v : ℕ) → v < 2 ^ 64 → (archOf m .sp ≡ k → v ≤ f .cfa) → Inv (withRegisters m (set (m .registers) k v))
   setting k v small low =
       let good = set-good (m .registers) k v small (record { wide = i .wide; below = i .values }) in
       record {
@@ -67,40 +67,40 @@ module _ (m : Machine) (f : Open) (fs : List Open) (here : m .frames ≡ f ∷ f
         inner =
             rw here (
               innermost .0,
-              (set-keeps (λ (x : ℕ). x ≤ f .cfa) (m .registers) k v (numbers (m .arch) .sp) (innermost .1 .0) low, innermost .1 .1),
+              (set-keeps (λ (x : ℕ). x ≤ f .cfa) (m .registers) k v (archOf m .sp) (innermost .1 .0) low, innermost .1 .1),
             );
       }
 
   -- the pair of a register other than 16 ends
   ending : (reg : ℕ) → (reg ≡ 16 → ⊥) → Inv (withFrames m (reloading f reg ∷ fs))
   ending reg other =
-      let live : AllLive (numbers (m .arch)) (m .stack) (f ∷ fs) = rw here at (i .live) in
-      let kept : Kept (m .arch) (m .section) f = innermost .0 in
+      let live : AllLive (archOf m) (m .stack) (f ∷ fs) = rw here at (i .live) in
+      let kept : Kept (m .tables) f = innermost .0 in
       paired-keeps m f fs here (unspilled (f .spilled) reg)
       (record {
-        returns = returns (returning (m .arch)) (kept .returns);
+        returns = returns (returning (m .tables .arch)) (kept .returns);
         each = λ p j. let was = unspilled-in (f .spilled) reg p j in (kept .registers p was, live .0 p was);
       })
       i
     where
       Returns : List Pair → Type 0
-      Returns ps = (isSpilled ps (numbers (m .arch) .ra) ≡ true) ⊎ (oneOf (numbers (m .arch) .ra) (numbers (m .arch) .preserved) ≡ true)
+      Returns ps = (isSpilled ps (archOf m .ra) ≡ true) ⊎ (oneOf (archOf m .ra) (archOf m .preserved) ≡ true)
 
-      returns : Returning (numbers (m .arch)) → Returns (f .spilled) → Returns (unspilled (f .spilled) reg)
+      returns : Returning (archOf m) → Returns (f .spilled) → Returns (unspilled (f .spilled) reg)
       returns (left p c l preserved) old = inr preserved
       returns (pushed p is c) (inr preserved) = inr preserved
-      returns (pushed p is c) (inl spilled) = inl (unspilled-other (f .spilled) reg (numbers (m .arch) .ra) (λ e. other (e ∙ is)) spilled)
+      returns (pushed p is c) (inl spilled) = inl (unspilled-other (f .spilled) reg (archOf m .ra) (λ e. other (e ∙ is)) spilled)
 
   -- the innermost frame's CFA is a number of 64 bits
   small-cfa : f .cfa < 2 ^ 64
-  small-cfa = subst (λ (x : ℕ). x < 2 ^ 64) (innermost .0 .keptSp) (innermost .0 .below (numbers (m .arch) .sp))
+  small-cfa = subst (λ (x : ℕ). x < 2 ^ 64) (innermost .0 .keptSp) (innermost .0 .below (archOf m .sp))
 
 -- what the rules of a change give
 change-rules :
-    (m : Machine) (f : Open) (reg v : ℕ) → changeAllowed m f reg v ≡ true → (v < 2 ^ 64) × (reg ≡ numbers (m .arch) .sp → ⊥)
+    (m : Machine) (f : Open) (reg v : ℕ) → changeAllowed m f reg v ≡ true → (v < 2 ^ 64) × (reg ≡ archOf m .sp → ⊥)
 unfolding changeAllowed notSpNorPc
 change-rules m f reg v g =
-    let a : Arch = numbers (m .arch) in
+    let a : Arch = archOf m in
     let spilled : Bool = not (oneOf reg (a .preserved)) || isSpilled (f .spilled) reg in
     let (_, (neither, (_, (small, _)))) = each spilled (notSpNorPc a reg ∷ isRegister a reg ∷ ltb v (2 ^ 64) ∷ []) g in
     let (notSp, _) = both (not (eqb reg (a .sp))) (not (eqb (column a reg) pcColumn)) neither in
@@ -112,7 +112,7 @@ change-keeps m reg v i =
     if-open Inv m (change m reg v) i λ (f : Open) (fs : List Open) here.
     if-allowed m _ (changeAllowed m f reg v) i λ (g : changeAllowed m f reg v ≡ true).
     let (small, notSp) = change-rules m f reg v g in
-    setting m f fs here i (column (numbers (m .arch)) reg) v small (λ e. absurd (notSp (sp-alone (m .arch) reg (sym e))))
+    setting m f fs here i (column (archOf m) reg) v small (λ e. absurd (notSp (sp-alone (m .tables .arch) reg (sym e))))
 
 -- a reload keeps it
 pub reload-keeps : (m : Machine) (reg : ℕ) → Inv m → Inv (reload m reg (m .frames))
@@ -121,10 +121,10 @@ reload-keeps m reg i =
     if-open Inv m (reload m reg) i λ (f : Open) (fs : List Open) here.
     if-allowed m _ (reloadAllowed f reg) i λ (g : reloadAllowed f reg ≡ true).
     let (_, not16) = both (isSpilled (f .spilled) reg) (not (eqb reg 16)) g in
-    let k : ℕ = column (numbers (m .arch)) reg in
-    let kept : Kept (m .arch) (m .section) f = innermost m f fs here i .0 in
+    let k : ℕ = column (archOf m) reg in
+    let kept : Kept (m .tables) f = innermost m f fs here i .0 in
     let v : ℕ = getD (f .kept) k 0 in
-    let low : numbers (m .arch) .sp ≡ k → v ≤ f .cfa = λ e. omega (arith, sym (ap (λ (x : ℕ). getD (f .kept) x 0) e) ∙ kept .keptSp) in
+    let low : archOf m .sp ≡ k → v ≤ f .cfa = λ e. omega (arith, sym (ap (λ (x : ℕ). getD (f .kept) x 0) e) ∙ kept .keptSp) in
     ending (withRegisters m (set (m .registers) k v)) f fs here (setting m f fs here i k v (kept .below k) low) reg
     (eqb-false reg 16 (not-true (eqb reg 16) not16))
 
@@ -134,4 +134,4 @@ move-keeps m to i =
     if-open Inv m (move m to) i λ (f : Open) (fs : List Open) here.
     if-allowed m _ (leb to (f .cfa)) i λ (g : leb to (f .cfa) ≡ true).
     let low = leb-true to (f .cfa) g in
-    setting m f fs here i (numbers (m .arch) .sp) to (omega (arith, small-cfa m f fs here i)) (λ e. low)
+    setting m f fs here i (archOf m .sp) to (omega (arith, small-cfa m f fs here i)) (λ e. low)

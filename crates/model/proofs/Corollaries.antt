@@ -15,36 +15,37 @@ use Rattle.arch.specs.Arch.{Arch, numbers}
 use Rattle.rows.specs.Row.{Found, None, Pad, cleanup, catch}
 use Rattle.model.specs.FrameStep.{maxFrames}
 use Rattle.model.specs.Search.{Searched, Chosen, Stopped, Ended}
-use Rattle.model.specs.Machine.{Open, Machine, lentBy}
+use Rattle.model.specs.Machine.{Open, Machine, lentBy, Tables, callerInterrupted, archOf}
 use Rattle.model.specs.Throw.{Throw, thrown, throwable, throwAllowed, Standing, standing, framesAt, rowOf}
 use Rattle.model.specs.Sound.{Sound}
 use Rattle.model.specs.Expected.{LandingPad, Compared, Finished, padOf, padsBy, padsFrom, outcome, due, dueBy, firstOf}
 use Rattle.model.specs.OtherStack.{SameLive, withStack}
-use Rattle.model.specs.Demand.{ResumeCall, Admissible, answers, raisedBy, unwindingOf, EveryLanding}
+use Rattle.model.specs.Demand.{ResumeCall, Admissible, answers, raisedBy, unwindingOf, EveryLanding, Regular}
 use Rattle.model.proofs.Chain.{AllLive, Inv}
+use Rattle.model.proofs.Live.{same-live}
 use Rattle.model.proofs.Theorem.{every-landing}
 
 -- each landing is of a frame of its own
-pads-length : (a : Arch) (section : Region) (n : ℕ) (ss : List Standing) → length (padsFrom a section n ss) ≤ length ss
-pads-length a section n [] = omega arith
-pads-length a section n (s ∷ ss) = go (rowOf a section s) (pads-length a section (n + 1) ss)
+pads-length : (ts : Tables) (n : ℕ) (ss : List Standing) → length (padsFrom ts n ss) ≤ length ss
+pads-length ts n [] = omega arith
+pads-length ts n (s ∷ ss) = go (rowOf ts s) (pads-length ts (n + 1) ss)
   where
     rest : List LandingPad
-    rest = padsFrom a section (n + 1) ss
+    rest = padsFrom ts (n + 1) ss
 
     acts : (l : LandingPad) (t u : Bool) → length rest ≤ length ss → length (if t then l ∷ rest else if u then l ∷ [] else []) ≤ suc (length ss)
     acts l true u h = omega arith
     acts l false true h = omega arith
     acts l false false h = omega arith
 
-    go : (row : Found) → length rest ≤ length ss → length (padsBy a n s row rest) ≤ suc (length ss)
+    go : (row : Found) → length rest ≤ length ss → length (padsBy (numbers (ts .arch)) n s row rest) ≤ suc (length ss)
     go None h = omega arith
-    go (Pad pad action) h = acts (padOf a n s pad) (eqb action cleanup) (eqb action catch) h
+    go (Pad pad action) h = acts (padOf (numbers (ts .arch)) n s pad) (eqb action cleanup) (eqb action catch) h
 
 -- and each frame an open one
 standing-length : (interrupted : Bool) (file : List ℕ) (fs : List Open) → length (standing interrupted file fs) ≡ length fs
 standing-length interrupted file [] = refl
-standing-length interrupted file (f ∷ fs) = ap suc (standing-length false (f .kept) fs)
+standing-length interrupted file (f ∷ fs) = ap suc (standing-length (callerInterrupted f) (f .kept) fs)
 
 -- at most 1,024 landings are due
 pub due-few : (m : Machine) → Inv m → (t : Throw) → length (due m t) ≤ maxFrames
@@ -52,11 +53,11 @@ unfolding due
 due-few m i t = go (outcome m t)
   where
     ls : List LandingPad
-    ls = padsFrom (numbers (m .arch)) (m .section) 0 (framesAt m t)
+    ls = padsFrom (m .tables) 0 (framesAt m t)
 
     go : (o : Searched) → length (dueBy o ls) ≤ maxFrames
     go (Chosen k p) =
-        let all = pads-length (numbers (m .arch)) (m .section) 0 (framesAt m t) in
+        let all = pads-length (m .tables) 0 (framesAt m t) in
         let frames = standing-length (t .interrupted) (thrown m t) (m .frames) in
         let few = i .few in
         omega arith
@@ -72,21 +73,18 @@ first-finished (suc n) (l ∷ ls) zero past less = absurd (omega arith)
 first-finished (suc n) (l ∷ ls) (suc k) past less = first-finished n ls k (omega arith) (omega arith)
 
 -- after every landing that is due was given, each further call that is not refused answers finished
-pub then-finished : (m : Machine) (t : Throw) (exception : ℕ) → EveryLanding m t exception → (cs : List ResumeCall) →
-    Admissible m (unwindingOf m t exception) cs → (k : ℕ) → length (due m t) ≤ k → k < length (answers (numbers (m .arch)) cs) →
-    getElem? (answers (numbers (m .arch)) cs) k ≡ some Finished
+pub then-finished : (m : Machine) (t : Throw) (exception : ℕ) → EveryLanding (Regular m) m t exception → (cs : List ResumeCall) →
+    Admissible (Regular m) (unwindingOf m t exception) cs → (k : ℕ) → length (due m t) ≤ k → k < length (answers (archOf m) cs) →
+    getElem? (answers (archOf m) cs) k ≡ some Finished
 then-finished m t exception every cs admissible k past less =
     ap (λ (gs : List Compared). getElem? gs k) (every .lands cs admissible .1)
-    ∙ first-finished (length (answers (numbers (m .arch)) cs)) (due m t) k past less
+    ∙ first-finished (length (answers (archOf m) cs)) (due m t) k past less
 
 -- a stack that agrees on the live slots holds the kept values in them
 other-live : (a : Arch) (stack other : Region) (fs : List Open) → AllLive a stack fs → SameLive stack other fs → AllLive a other fs
 other-live a stack other [] live same = tt
 other-live a stack other (f ∷ fs) live same = (
-  λ p i.
-      let here = live .0 p i in
-      let there = same f (List·Memᴰ·head refl) p i in
-      record { within = there .within; holding = there .same ∙ here .holding },
+  same-live a stack other f (live .0) (same f (List·Memᴰ·head refl)),
   other-live a stack other fs (live .1) (λ g i. same g (List·Memᴰ·tail i)),
 )
 
@@ -103,7 +101,7 @@ module _
         wide = i .wide;
         values = i .values;
         few = i .few;
-        live = other-live (numbers (m .arch)) (m .stack) other (m .frames) (i .live) same;
+        live = other-live (archOf m) (m .stack) other (m .frames) (i .live) same;
         inner = i .inner;
       }
 
@@ -112,13 +110,18 @@ module _
   other-throwable t [] = refl
   other-throwable t (f ∷ fs) = refl
 
+  pub other-allowed : (t : Throw) → throwAllowed m t ≡ true → throwAllowed (withStack m other) t ≡ true
+  unfolding throwAllowed
+  other-allowed t allowed = other-throwable t (m .frames) ∙ allowed
+
+  -- nor does soundness
+  pub other-sound : (t : Throw) → Sound m t → Sound (withStack m other) t
+  other-sound t s = record { tables = s .tables; frames = s .frames }
+
   module _ (t : Throw) (allowed : throwAllowed m t ≡ true) (s : Sound m t) where
     -- every landing, and no other, after the same throw
-    other-every : (exception : ℕ) → EveryLanding (withStack m other) t exception
-    unfolding throwAllowed
-    other-every =
-        every-landing (withStack m other) other-inv t (other-throwable t (m .frames) ∙ allowed)
-        (record { tables = s .tables; frames = s .frames })
+    other-every : (exception : ℕ) → EveryLanding (Regular (withStack m other)) (withStack m other) t exception
+    other-every = every-landing (withStack m other) other-inv t (other-allowed t allowed) (other-sound t s)
 
     -- what is expected does not look at the stack
     pub other-expected : (outcome (withStack m other) t ≡ outcome m t) × (due (withStack m other) t ≡ due m t)
@@ -132,10 +135,10 @@ module _
 
     -- and so do sweep calls, as many as answer in both
     pub other-answers : (exception exception′ : ℕ) (cs ds : List ResumeCall) →
-        Admissible (withStack m other) (unwindingOf (withStack m other) t exception) cs →
-        Admissible m (unwindingOf m t exception′) ds →
-        length (answers (numbers (m .arch)) cs) ≡ length (answers (numbers (m .arch)) ds) →
-        answers (numbers (m .arch)) cs ≡ answers (numbers (m .arch)) ds
+        Admissible (Regular (withStack m other)) (unwindingOf (withStack m other) t exception) cs →
+        Admissible (Regular m) (unwindingOf m t exception′) ds →
+        length (answers (archOf m) cs) ≡ length (answers (archOf m) ds) →
+        answers (archOf m) cs ≡ answers (archOf m) ds
     unfolding due outcome
     other-answers exception exception′ cs ds c d e =
         other-every exception .lands cs c .1

@@ -18,30 +18,32 @@ use Rattle.mem.proofs.Tests.{both}
 use Rattle.arch.specs.Arch.{Arch, numbers}
 use Rattle.arch.specs.File.{columns, sp, pc}
 use Rattle.lookup.specs.Record.{holds}
-use Rattle.lookup.specs.Tables.{Entry, records}
+use Rattle.lookup.specs.Tables.{Entry}
 use Rattle.lookup.specs.Sound.{_∈_}
 use Rattle.frame.specs.Layout.{Pair}
 use Rattle.model.specs.FrameStep.{maxFrames}
-use Rattle.model.specs.Machine.{Open, Machine, column, isRegister, address, inside, clear, written}
+use Rattle.model.specs.Machine.{Open, Tables, Machine, callerInterrupted, column, isRegister, address, inside, clear, written, recordsOf, archOf, lending}
 use Rattle.model.specs.Described.{isSpilled, described}
-use Rattle.model.specs.Event.{pushes, keptBy, newFrame, returns, callerDescribed, callAllowed, entered, call}
+use Rattle.model.specs.Event.{pushes, newFrame, returns, callerDescribed, callAllowed, entered, call}
 use Rattle.model.proofs.Chain.{Kept, Slot, Live, AllLive, Chain, Inner, Inv}
 use Rattle.model.proofs.Files.{pointers}
 use Rattle.model.proofs.Guard.{each}
 use Rattle.model.proofs.Allowed.{asked, by-test, if-allowed}
 use Rattle.model.proofs.Registers.{Returning, pushed, left, returning, address-bits, Good}
 use Rattle.model.proofs.Calling.{calling-sp, kept-sp, calling-good, kept-good, kept-pc, kept-ra}
-use Rattle.model.proofs.Slots.{written-holds, written-live, written-opens}
+use Rattle.model.proofs.Slots.{written-holds, written-live, written-lent}
 
 -- the callers of the frame that a call opens are a chain from its kept file on
 callers :
-    (m : Machine) (kept : List ℕ) (ret : ℕ) → pc kept ≡ ret → (fs : List Open) → returns fs ret ≡ true → callerDescribed m fs kept ret ≡ true →
-    Inner (m .arch) (m .section) (m .registers) fs → Chain (m .arch) (m .section) false false kept fs
-callers m kept ret is [] back out inner = is ∙ eqb-true ret 0 back
-callers m kept ret is (f ∷ fs) back out inner =
+    (ts : Tables) (file : List ℕ) (new : Open) (ret : ℕ) → pc (new .kept) ≡ ret → (fs : List Open) → returns fs ret ≡ true →
+    callerDescribed ts fs new ret ≡ true → Inner ts file fs → Chain ts false (callerInterrupted new) (new .kept) fs
+unfolding callerInterrupted
+callers ts file new ret is [] back out inner = is ∙ eqb-true ret 0 back
+callers ts file new ret is (f ∷ fs) back out inner =
     let (above, held) = both (ltb 0 ret) (holds (f .entry .function) (ret - 1)) back in
-    let a : Arch = numbers (m .arch) in
-    let (fits, low) = both (described a (m .section) f kept false (ret - 1)) (ltb (sp a kept) (f .cfa)) out in
+    let a : Arch = numbers (ts .arch) in
+    let kept : List ℕ = new .kept in
+    let (fits, low) = both (described ts f kept (callerInterrupted new) (ret - 1)) (ltb (sp a kept) (f .cfa)) out in
     let lower : sp a kept < f .cfa = ltb-true (sp a kept) (f .cfa) low in (
       record {
         kept = inner .0;
@@ -61,7 +63,7 @@ pushed-pair false q p j = absurd (List·Memᴰ·not-nil j)
 
 module _ (m : Machine) (e : Entry) (ret : ℕ) (i : Inv m) where
   abbrev a : Arch
-  a = numbers (m .arch)
+  a = archOf m
 
   abbrev file : List ℕ
   file = m .registers
@@ -69,6 +71,10 @@ module _ (m : Machine) (e : Entry) (ret : ℕ) (i : Inv m) where
   -- the registers are a file
   abbrev good : Good (m .registers)
   good = record { wide = i .wide; below = i .values }
+
+  -- the frame that it opens
+  abbrev new : Open
+  new = newFrame a file e ret
 
   -- where a call pushes
   abbrev top : ℕ
@@ -81,24 +87,24 @@ module _ (m : Machine) (e : Entry) (ret : ℕ) (i : Inv m) where
   module _ (fits : ret < 2 ^ a .addressBits) where
     -- ret is a number of 64 bits
     small : ret < 2 ^ 64
-    small = omega (arith, fits, address-bits (m .arch))
+    small = omega (arith, fits, address-bits (m .tables .arch))
 
     -- the frame that a call opens
     new-kept :
-        e ∈ records (m .section .bytes) (m .section .base) (m .arch) → 0 < sp a file → Kept (m .arch) (m .section) (newFrame a file e ret)
+        e ∈ recordsOf (m .tables) → 0 < sp a file → Kept (m .tables) new
     unfolding newFrame isRegister
     new-kept isRecord above =
-        let kept = kept-good (m .arch) file good ret small in
-        let back = kept-pc (m .arch) file good ret small in
-        let known = lt-ltb (column a (a .ra)) columns (pointers (m .arch) .raBelow) in
+        let kept = kept-good (m .tables .arch) file good ret small in
+        let back = kept-pc (m .tables .arch) file good ret small in
+        let known = lt-ltb (column a (a .ra)) columns (pointers (m .tables .arch) .raBelow) in
         record {
           isRecord = isRecord;
           wide = kept .wide;
           below = kept .below;
-          keptSp = kept-sp (m .arch) file good ret;
+          keptSp = kept-sp (m .tables .arch) file good ret;
           above = above;
-          returns = returned (returning (m .arch));
-          keptPc = rw (kept-ra (m .arch) file good ret small, back) (mod-eq-of-lt fits);
+          returns = returned (returning (m .tables .arch));
+          keptPc = rw (kept-ra (m .tables .arch) file good ret small, back) (mod-eq-of-lt fits);
           registers = λ p j. ap (λ (q : Pair). isRegister a (q .reg)) (pushed-pair (pushes a) pair p j .1) ∙ known;
         }
       where
@@ -109,27 +115,27 @@ module _ (m : Machine) (e : Entry) (ret : ℕ) (i : Inv m) where
 
     module _ (within : pushes a ≡ true → inside (m .stack) top ≡ true) where
       -- its slot holds ret
-      new-live : Live a (if pushes a then written (m .stack) top ret else m .stack) (newFrame a file e ret)
+      new-live : Live a (if pushes a then written (m .stack) top ret else m .stack) new
       unfolding newFrame
       new-live p j =
           let (push, is) = pushed-pair (pushes a) pair p j in
-          let value = sym (kept-ra (m .arch) file good ret small) in
-          let there = written-holds a (m .stack) (newFrame a file e ret) pair ret (within push) small value in
-          subst (λ (t : Bool). Slot a (if t then written (m .stack) top ret else m .stack) (newFrame a file e ret) p) (sym push)
-          (subst (Slot a (written (m .stack) top ret) (newFrame a file e ret)) (sym is) there)
+          let value = sym (kept-ra (m .tables .arch) file good ret small) in
+          let there = written-holds a (m .stack) new pair ret (within push) small value in
+          subst (λ (t : Bool). Slot a (if t then written (m .stack) top ret else m .stack) new p) (sym push)
+          (subst (Slot a (written (m .stack) top ret) new) (sym is) there)
 
       -- the invariant after a call
       entered-keeps :
-          e ∈ records (m .section .bytes) (m .section .base) (m .arch) → 0 < sp a file → (pushes a ≡ true → clear top (m .frames) ≡ true) →
-          length (m .frames) < maxFrames → Chain (m .arch) (m .section) false false (keptBy a file ret) (m .frames) → Inv (entered m e ret)
+          e ∈ recordsOf (m .tables) → 0 < sp a file → (pushes a ≡ true → clear top (m .frames) ≡ true) →
+          length (m .frames) < maxFrames → Chain (m .tables) false (callerInterrupted new) (new .kept) (m .frames) → Inv (entered m e ret)
       unfolding entered newFrame
       entered-keeps isRecord above free few chain =
-          let next = calling-good (m .arch) file good ret small in
+          let next = calling-good (m .tables .arch) file good ret small in
           record {
             known = i .known;
             accepted =
-                by-test (λ (s : Region). opens (record { regions = m .section ∷ s ∷ [] }) ≡ true) (pushes a) _ (m .stack)
-                (λ p. written-opens (m .section) (m .stack) top _ (within p) (i .accepted)) (λ p. i .accepted);
+                by-test (λ (s : Region). opens (lending (m .tables) s) ≡ true) (pushes a) _ (m .stack)
+                (λ p. written-lent (m .tables) (m .stack) top _ (within p) (i .accepted)) (λ p. i .accepted);
             bytes = i .bytes;
             wide = next .wide;
             values = next .below;
@@ -139,31 +145,31 @@ module _ (m : Machine) (e : Entry) (ret : ℕ) (i : Inv m) where
               by-test (λ (s : Region). AllLive a s (m .frames)) (pushes a) (written (m .stack) top ret) (m .stack)
                   (λ p. written-live a (m .stack) top ret (within p) (m .frames) (free p) (i .live)) (λ p. i .live),
             );
-            inner = (new-kept isRecord above, (calling-sp (m .arch) file good ret, chain));
+            inner = (new-kept isRecord above, (calling-sp (m .tables .arch) file good ret, chain));
           }
 
 -- an allowed call
 call-allowed :
-    (m : Machine) (e : Entry) (ret : ℕ) → e ∈ records (m .section .bytes) (m .section .base) (m .arch) → Inv m → callAllowed m ret ≡ true →
+    (m : Machine) (e : Entry) (ret : ℕ) → e ∈ recordsOf (m .tables) → Inv m → callAllowed m e ret ≡ true →
     Inv (entered m e ret)
-unfolding callAllowed
+unfolding callAllowed newFrame
 call-allowed m e ret isRecord i g =
-    let a : Arch = numbers (m .arch) in
+    let a : Arch = archOf m in
     let top : ℕ = address (sp a (m .registers)) 1 in
-    let kept : List ℕ = keptBy a (m .registers) ret in
-    let caller : List Bool = callerDescribed m (m .frames) kept ret ∷ ltb (length (m .frames)) maxFrames ∷ [] in
+    let opened : Open = newFrame a (m .registers) e ret in
+    let caller : List Bool = callerDescribed (m .tables) (m .frames) opened ret ∷ ltb (length (m .frames)) maxFrames ∷ [] in
     let room : List Bool = (not (pushes a) || inside (m .stack) top) ∷ (not (pushes a) || clear top (m .frames)) ∷ [] in
     let rest : List Bool = ltb 0 (sp a (m .registers)) ∷ room ++ (ltb ret (2 ^ a .addressBits) ∷ caller) in
     let (back, (above, (within, (free, (fits, (out, (few, _))))))) = each (returns (m .frames) ret) rest g in
     let below = ltb-true ret (2 ^ a .addressBits) fits in
-    let is : pc kept ≡ ret = kept-pc (m .arch) (m .registers) (good m e ret i) ret (small m e ret i below) in
+    let is : pc (opened .kept) ≡ ret = kept-pc (m .tables .arch) (m .registers) (good m e ret i) ret (small m e ret i below) in
     entered-keeps m e ret i below (asked (pushes a) (inside (m .stack) top) within) isRecord
     (ltb-true 0 (sp a (m .registers)) above) (asked (pushes a) (clear top (m .frames)) free)
-    (ltb-true (length (m .frames)) maxFrames few) (callers m kept ret is (m .frames) back out (i .inner))
+    (ltb-true (length (m .frames)) maxFrames few) (callers (m .tables) (m .registers) opened ret is (m .frames) back out (i .inner))
 
 -- a call of a record of the section keeps the invariant
 pub call-keeps :
     (m : Machine) (ret : ℕ) (o : Option Entry) →
-    ((e : Entry) → o ≡ some e → e ∈ records (m .section .bytes) (m .section .base) (m .arch)) → Inv m → Inv (call m ret o)
+    ((e : Entry) → o ≡ some e → e ∈ recordsOf (m .tables)) → Inv m → Inv (call m ret o)
 call-keeps m ret none named i = i
-call-keeps m ret (some e) named i = if-allowed m (entered m e ret) (callAllowed m ret) i (call-allowed m e ret (named e refl) i)
+call-keeps m ret (some e) named i = if-allowed m (entered m e ret) (callAllowed m e ret) i (call-allowed m e ret (named e refl) i)

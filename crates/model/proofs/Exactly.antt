@@ -7,12 +7,11 @@ use Prim.Native.Nat.{ℕ, _+_, _<_}
 use native.Mathlib.Omega.{arith}
 use lib.Dec.{eqb}
 use Rattle.failure.specs.Choice.{if_then_else_}
-use Rattle.mem.specs.Memory.{Region}
 use Rattle.arch.specs.Arch.{Arch, numbers}
 use Rattle.arch.specs.File.{sp}
 use Rattle.rows.specs.Row.{Found, None, Pad, cleanup, catch}
 use Rattle.model.specs.Search.{Searched, Chosen, Stopped, Ended}
-use Rattle.model.specs.Machine.{Machine}
+use Rattle.model.specs.Machine.{Machine, Tables}
 use Rattle.model.specs.Throw.{Throw, Standing, framesAt, rowOf}
 use Rattle.model.specs.Expected.{LandingPad, padOf, outcomeBy, outcomeFrom, padsBy, padsFrom, outcome, due, dueBy}
 use Rattle.model.specs.Exactly.{Numbered, PadAt, CleanupBelow, Rising, UpToCatch, Exactly}
@@ -20,19 +19,22 @@ use Rattle.model.proofs.Cleaning.{chosen-above}
 use Rattle.model.proofs.FirstRow.{Kind, Passes, Catches, Terminates, kind, numbered-above, on-passed, on-catch, on-terminate}
 use Rattle.model.proofs.FirstRow.{stops, ends, chooses}
 
-module _ (a : Arch) (section : Region) where
+module _ (ts : Tables) where
+  abbrev a : Arch
+  a = numbers (ts .arch)
+
   -- numbers rise strictly along the landings
   rising-from : (n : ℕ) (ls : List LandingPad) → Rising (n + 1) ls → Rising n ls
   rising-from n [] r = tt
   rising-from n (l ∷ ls) r = (let above = r .0 in omega arith, r .1)
 
-  rises : (n : ℕ) (ss : List Standing) → Rising n (padsFrom a section n ss)
+  rises : (n : ℕ) (ss : List Standing) → Rising n (padsFrom ts n ss)
   unfolding padOf
   rises n [] = tt
-  rises n (x ∷ ss) = go (rowOf a section x) (rises (n + 1) ss)
+  rises n (x ∷ ss) = go (rowOf ts x) (rises (n + 1) ss)
     where
       rest : List LandingPad
-      rest = padsFrom a section (n + 1) ss
+      rest = padsFrom ts (n + 1) ss
 
       acts : (pad : ℕ) (t u : Bool) → Rising (n + 1) rest →
           Rising n (if t then padOf a n x pad ∷ rest else if u then padOf a n x pad ∷ [] else [])
@@ -47,33 +49,33 @@ module _ (a : Arch) (section : Region) where
   module _ (n : ℕ) (x : Standing) (ss : List Standing) where
     -- what the frames after the first come to
     abbrev rest : Searched
-    rest = outcomeFrom a section (n + 1) ss
+    rest = outcomeFrom ts (n + 1) ss
 
     abbrev later : List LandingPad
-    later = padsFrom a section (n + 1) ss
+    later = padsFrom ts (n + 1) ss
 
     -- landings of the frames after the first are landings of all
-    pad-later : (action k : ℕ) (l : LandingPad) → PadAt a section (n + 1) ss action k l → PadAt a section n (x ∷ ss) action k l
+    pad-later : (action k : ℕ) (l : LandingPad) → PadAt ts (n + 1) ss action k l → PadAt ts n (x ∷ ss) action k l
     pad-later action k l i =
         record { frame = i .frame; pad = i .pad; numbered = inr (i .numbered); row = i .row; is = i .is }
 
-    below-later : (k : ℕ) (l : LandingPad) → CleanupBelow a section (n + 1) ss k l → CleanupBelow a section n (x ∷ ss) k l
+    below-later : (k : ℕ) (l : LandingPad) → CleanupBelow ts (n + 1) ss k l → CleanupBelow ts n (x ∷ ss) k l
     below-later k l i =
         record { number = i .number; under = i .under; landing = pad-later cleanup (i .number) l (i .landing) }
 
     -- a landing below the catch is the first frame's or a later one's
     below-cases : (R : Type 0) (k : ℕ) (l : LandingPad) →
-        (n < k → (pad : ℕ) → rowOf a section x ≡ Pad pad cleanup → l ≡ padOf a n x pad → R) →
-        (CleanupBelow a section (n + 1) ss k l → R) → CleanupBelow a section n (x ∷ ss) k l → R
+        (n < k → (pad : ℕ) → rowOf ts x ≡ Pad pad cleanup → l ≡ padOf a n x pad → R) →
+        (CleanupBelow ts (n + 1) ss k l → R) → CleanupBelow ts n (x ∷ ss) k l → R
     below-cases R k l here after c = go (c .landing .numbered)
       where
-        i : PadAt a section n (x ∷ ss) cleanup (c .number) l
+        i : PadAt ts n (x ∷ ss) cleanup (c .number) l
         i = c .landing
 
         go : Numbered n (x ∷ ss) (c .number) (i .frame) → R
         go (inl e) =
             let number : c .number ≡ n = e .0 in
-            here (subst (λ (j : ℕ). j < k) number (c .under)) (i .pad) (ap (rowOf a section) (sym (e .1)) ∙ i .row)
+            here (subst (λ (j : ℕ). j < k) number (c .under)) (i .pad) (ap (rowOf ts) (sym (e .1)) ∙ i .row)
             (i .is
             ∙ (ap (λ (j : ℕ). padOf a j (i .frame) (i .pad)) number ∙ ap (λ (s : Standing). padOf a n s (i .pad)) (e .1)))
         go (inr j) =
@@ -85,10 +87,10 @@ module _ (a : Arch) (section : Region) where
             })
 
     abbrev Goal : ℕ → Type 0
-    Goal k = UpToCatch a section n (x ∷ ss) k (padsFrom a section n (x ∷ ss))
+    Goal k = UpToCatch ts n (x ∷ ss) k (padsFrom ts n (x ∷ ss))
 
     -- by the row of the first frame: none
-    up-past : (k : ℕ) → rowOf a section x ≡ None → UpToCatch a section (n + 1) ss k later → Goal k
+    up-past : (k : ℕ) → rowOf ts x ≡ None → UpToCatch ts (n + 1) ss k later → Goal k
     up-past k row u =
         record {
           cleanups = u .cleanups;
@@ -106,7 +108,7 @@ module _ (a : Arch) (section : Region) where
         }
 
     -- cleanup
-    up-cleanup : (k pad : ℕ) → rowOf a section x ≡ Pad pad cleanup → n < k → UpToCatch a section (n + 1) ss k later → Goal k
+    up-cleanup : (k pad : ℕ) → rowOf ts x ≡ Pad pad cleanup → n < k → UpToCatch ts (n + 1) ss k later → Goal k
     up-cleanup k pad row less u =
         record {
           cleanups = padOf a n x pad ∷ u .cleanups;
@@ -135,7 +137,7 @@ module _ (a : Arch) (section : Region) where
         }
 
     -- catch
-    up-catch : (k pad : ℕ) → rowOf a section x ≡ Pad pad catch → k ≡ n → Goal k
+    up-catch : (k pad : ℕ) → rowOf ts x ≡ Pad pad catch → k ≡ n → Goal k
     up-catch k pad row here =
         record {
           cleanups = [];
@@ -144,7 +146,7 @@ module _ (a : Arch) (section : Region) where
           each =
               λ l. (
                 λ i. absurd (List·Memᴰ·not-nil i),
-                λ (c : CleanupBelow a section n (x ∷ ss) k l).
+                λ (c : CleanupBelow ts n (x ∷ ss) k l).
                     let above = numbered-above n (x ∷ ss) (c .number) (c .landing .frame) (c .landing .numbered) in
                     let under = c .under in
                     absurd (omega arith),
@@ -154,15 +156,15 @@ module _ (a : Arch) (section : Region) where
         }
 
     -- any
-    up-by : (k p : ℕ) (row : Found) → rowOf a section x ≡ row → outcomeBy a n x row rest ≡ Chosen k p →
-        (rest ≡ Chosen k p → UpToCatch a section (n + 1) ss k later) → Goal k
+    up-by : (k p : ℕ) (row : Found) → rowOf ts x ≡ row → outcomeBy a n x row rest ≡ Chosen k p →
+        (rest ≡ Chosen k p → UpToCatch ts (n + 1) ss k later) → Goal k
     up-by k p None e o u = up-past k e (u o)
     up-by k p (Pad pad action) e o u = go (kind (Pad pad action))
       where
         go : Kind (Pad pad action) → Goal k
         go (Passes q) =
             let after : rest ≡ Chosen k p = sym (on-passed a n x (Pad pad action) rest q) ∙ o in
-            let above = chosen-above a section (n + 1) ss k p after in
+            let above = chosen-above ts (n + 1) ss k p after in
             up-cleanup k pad (e ∙ ap (Pad pad) q) (omega arith) (u after)
         go (Catches q) =
             let this : Chosen n (sp a (x .file)) ≡ Chosen k p = sym (on-catch a n x (Pad pad action) rest q) ∙ o in
@@ -173,34 +175,31 @@ module _ (a : Arch) (section : Region) where
             let z : _≡_ {A = ℕ} 0 1 = cc in absurd (omega arith)
 
   -- where a catch is chosen, the landings are exactly those up to it
-  pub up-to : (n : ℕ) (ss : List Standing) (k p : ℕ) → outcomeFrom a section n ss ≡ Chosen k p →
-      UpToCatch a section n ss k (padsFrom a section n ss)
+  pub up-to : (n : ℕ) (ss : List Standing) (k p : ℕ) → outcomeFrom ts n ss ≡ Chosen k p →
+      UpToCatch ts n ss k (padsFrom ts n ss)
   up-to n [] k p e = let z : _≡_ {A = ℕ} 0 1 = cc in absurd (omega arith)
-  up-to n (x ∷ ss) k p e = up-by n x ss k p (rowOf a section x) refl e (λ q. up-to (n + 1) ss k p q)
+  up-to n (x ∷ ss) k p e = up-by n x ss k p (rowOf ts x) refl e (λ q. up-to (n + 1) ss k p q)
 
 -- exactly, of every machine and throw
 pub exactly : (m : Machine) (t : Throw) → Exactly m t
 unfolding outcome due
 exactly m t =
     record {
-      stops = stops a section 0 ss;
-      ends = ends a section 0 ss;
-      chooses = chooses a section 0 ss;
+      stops = stops ts 0 ss;
+      ends = ends ts 0 ss;
+      chooses = chooses ts 0 ss;
       nothing = (λ e. none (outcome m t) refl e, λ e. ⊎-elim (λ (o : outcome m t ≡ Stopped). rw o) (λ (o : outcome m t ≡ Ended). rw o) e);
-      lands = λ k p e. subst (UpToCatch a section 0 ss k) (sym (ap (λ (o : Searched). dueBy o ls) e)) (up-to a section 0 ss k p e);
+      lands = λ k p e. subst (UpToCatch ts 0 ss k) (sym (ap (λ (o : Searched). dueBy o ls) e)) (up-to ts 0 ss k p e);
     }
   where
-    a : Arch
-    a = numbers (m .arch)
-
-    section : Region
-    section = m .section
+    ts : Tables
+    ts = m .tables
 
     ss : List Standing
     ss = framesAt m t
 
     ls : List LandingPad
-    ls = padsFrom a section 0 ss
+    ls = padsFrom ts 0 ss
 
     some : (ks : List LandingPad) (l : LandingPad) → ks ++ l ∷ [] ≡ [] → ⊥
     some [] l e = let z : _≡_ {A = ℕ} 0 1 = cc in absurd (omega arith)
@@ -208,7 +207,7 @@ exactly m t =
 
     none : (o : Searched) → outcome m t ≡ o → dueBy o ls ≡ [] → (outcome m t ≡ Stopped) ⊎ (outcome m t ≡ Ended)
     none (Chosen k p) e d =
-        let u = up-to a section 0 ss k p e in
+        let u = up-to ts 0 ss k p e in
         absurd (some (u .cleanups) (u .last) (sym (u .split) ∙ d))
     none Stopped e d = inl e
     none Ended e d = inr e

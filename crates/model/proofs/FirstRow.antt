@@ -7,14 +7,14 @@ use Prim.Native.Nat.{ℕ, _+_, _≤_}
 use native.Mathlib.Omega.{arith}
 use lib.Dec.{eqb}
 use borrow.Author.Tests.{eqb-true, eqb-false, ne-eqb}
-use Rattle.mem.specs.Memory.{Region}
-use Rattle.arch.specs.Arch.{Arch}
+use Rattle.arch.specs.Arch.{Arch, numbers}
 use Rattle.arch.specs.File.{sp}
 use Rattle.rows.specs.Row.{Found, None, Pad, cleanup, catch}
 use Rattle.model.specs.Search.{Searched, Chosen, Stopped, Ended}
 use Rattle.model.specs.Throw.{Standing, rowOf}
 use Rattle.model.specs.Expected.{outcomeBy, outcomeFrom}
 use Rattle.model.specs.Exactly.{Passed, Catch, Terminate, Numbered, First, Neither, FirstCatch}
+use Rattle.model.specs.Machine.{Tables}
 
 -- a row is of one of three kinds
 pub data Kind (row : Found) : Type 0 where
@@ -52,16 +52,19 @@ module _ (a : Arch) where
   on-terminate n s None rest e = absurd e
   on-terminate n s (Pad pad action) rest e = rw (ne-eqb action cleanup (e .0), ne-eqb action catch (e .1))
 
-module _ (a : Arch) (section : Region) where
+module _ (ts : Tables) where
+  abbrev a : Arch
+  a = numbers (ts .arch)
+
   module _ (n : ℕ) (x : Standing) (ss : List Standing) where
     -- a frame that is passed over, and one of those after it
-    passed-or : Passed (rowOf a section x) → (k : ℕ) (s : Standing) → (Numbered (n + 1) ss k s → Passed (rowOf a section s)) →
-        Numbered n (x ∷ ss) k s → Passed (rowOf a section s)
-    passed-or p k s later (inl e) = subst (λ (y : Standing). Passed (rowOf a section y)) (sym (e .1)) p
+    passed-or : Passed (rowOf ts x) → (k : ℕ) (s : Standing) → (Numbered (n + 1) ss k s → Passed (rowOf ts s)) →
+        Numbered n (x ∷ ss) k s → Passed (rowOf ts s)
+    passed-or p k s later (inl e) = subst (λ (y : Standing). Passed (rowOf ts y)) (sym (e .1)) p
     passed-or p k s later (inr i) = later i
 
     -- the first after a frame that is passed over is the first
-    first-past : (K : Found → Type 0) → Passed (rowOf a section x) → First a section (n + 1) ss K → First a section n (x ∷ ss) K
+    first-past : (K : Found → Type 0) → Passed (rowOf ts x) → First ts (n + 1) ss K → First ts n (x ∷ ss) K
     first-past K p f =
         record {
           number = f .number;
@@ -72,7 +75,7 @@ module _ (a : Arch) (section : Region) where
         }
 
     -- a frame that is not passed over is the first
-    first-here : (K : Found → Type 0) → K (rowOf a section x) → First a section n (x ∷ ss) K
+    first-here : (K : Found → Type 0) → K (rowOf ts x) → First ts n (x ∷ ss) K
     first-here K p =
         record {
           number = n;
@@ -84,39 +87,39 @@ module _ (a : Arch) (section : Region) where
 
   -- what a search comes to, by the first row that is catch or terminate
   data Says (n : ℕ) (ss : List Standing) (o : Searched) : Type 0 where
-    Chooses : (f : First a section n ss Catch) → o ≡ Chosen (f .number) (sp a (f .frame .file)) → Says n ss o
-    Stops : First a section n ss Terminate → o ≡ Stopped → Says n ss o
-    Ends : Neither a section n ss → o ≡ Ended → Says n ss o
+    Chooses : (f : First ts n ss Catch) → o ≡ Chosen (f .number) (sp a (f .frame .file)) → Says n ss o
+    Stops : First ts n ss Terminate → o ≡ Stopped → Says n ss o
+    Ends : Neither ts n ss → o ≡ Ended → Says n ss o
 
-  says : (n : ℕ) (ss : List Standing) → Says n ss (outcomeFrom a section n ss)
+  says : (n : ℕ) (ss : List Standing) → Says n ss (outcomeFrom ts n ss)
   unfolding first-past first-here
   says n [] = Ends (λ k s i. absurd i) refl
-  says n (x ∷ ss) = here (kind (rowOf a section x)) (says (n + 1) ss)
+  says n (x ∷ ss) = here (kind (rowOf ts x)) (says (n + 1) ss)
     where
       rest : Searched
-      rest = outcomeFrom a section (n + 1) ss
+      rest = outcomeFrom ts (n + 1) ss
 
-      past : Passed (rowOf a section x) → Says (n + 1) ss rest → Says n (x ∷ ss) (outcomeFrom a section n (x ∷ ss))
-      past p (Chooses f e) = Chooses (first-past n x ss Catch p f) (on-passed a n x (rowOf a section x) rest p ∙ e)
-      past p (Stops f e) = Stops (first-past n x ss Terminate p f) (on-passed a n x (rowOf a section x) rest p ∙ e)
-      past p (Ends none e) = Ends (λ k s. passed-or n x ss p k s (none k s)) (on-passed a n x (rowOf a section x) rest p ∙ e)
+      past : Passed (rowOf ts x) → Says (n + 1) ss rest → Says n (x ∷ ss) (outcomeFrom ts n (x ∷ ss))
+      past p (Chooses f e) = Chooses (first-past n x ss Catch p f) (on-passed a n x (rowOf ts x) rest p ∙ e)
+      past p (Stops f e) = Stops (first-past n x ss Terminate p f) (on-passed a n x (rowOf ts x) rest p ∙ e)
+      past p (Ends none e) = Ends (λ k s. passed-or n x ss p k s (none k s)) (on-passed a n x (rowOf ts x) rest p ∙ e)
 
-      here : Kind (rowOf a section x) → Says (n + 1) ss rest → Says n (x ∷ ss) (outcomeFrom a section n (x ∷ ss))
+      here : Kind (rowOf ts x) → Says (n + 1) ss rest → Says n (x ∷ ss) (outcomeFrom ts n (x ∷ ss))
       here (Passes p) later = past p later
-      here (Catches p) later = Chooses (first-here n x ss Catch p) (on-catch a n x (rowOf a section x) rest p)
-      here (Terminates p) later = Stops (first-here n x ss Terminate p) (on-terminate a n x (rowOf a section x) rest p)
+      here (Catches p) later = Chooses (first-here n x ss Catch p) (on-catch a n x (rowOf ts x) rest p)
+      here (Terminates p) later = Stops (first-here n x ss Terminate p) (on-terminate a n x (rowOf ts x) rest p)
 
   -- where the first such row is of a kind, the search comes to what that kind says
   first-says : (K : Found → Type 0) (say : ℕ → Standing → Searched) →
       ((n : ℕ) (s : Standing) (row : Found) (rest : Searched) → K row → outcomeBy a n s row rest ≡ say n s) → (n : ℕ) (ss : List Standing)
-      (f : First a section n ss K) → outcomeFrom a section n ss ≡ say (f .number) (f .frame)
+      (f : First ts n ss K) → outcomeFrom ts n ss ≡ say (f .number) (f .frame)
   first-says K say law n [] f = absurd (f .numbered)
   first-says K say law n (x ∷ ss) f = go (f .numbered) (λ i. first-says K say law (n + 1) ss (after i))
     where
       rest : Searched
-      rest = outcomeFrom a section (n + 1) ss
+      rest = outcomeFrom ts (n + 1) ss
 
-      after : Numbered (n + 1) ss (f .number) (f .frame) → First a section (n + 1) ss K
+      after : Numbered (n + 1) ss (f .number) (f .frame) → First ts (n + 1) ss K
       after i =
           record {
             number = f .number;
@@ -128,50 +131,50 @@ module _ (a : Arch) (section : Region) where
 
       go : Numbered n (x ∷ ss) (f .number) (f .frame) →
           (Numbered (n + 1) ss (f .number) (f .frame) → rest ≡ say (f .number) (f .frame)) →
-          outcomeFrom a section n (x ∷ ss) ≡ say (f .number) (f .frame)
+          outcomeFrom ts n (x ∷ ss) ≡ say (f .number) (f .frame)
       go (inl e) later =
           let number : f .number ≡ n = e .0 in
           let here : f .frame ≡ x = e .1 in
-          law n x (rowOf a section x) rest (subst (λ (y : Standing). K (rowOf a section y)) here (f .row)) ∙ rw (number, here)
+          law n x (rowOf ts x) rest (subst (λ (y : Standing). K (rowOf ts y)) here (f .row)) ∙ rw (number, here)
       go (inr i) later =
           let above = numbered-above (n + 1) ss (f .number) (f .frame) i in
-          on-passed a n x (rowOf a section x) rest (f .below n x (omega arith) (inl (refl, refl))) ∙ later i
+          on-passed a n x (rowOf ts x) rest (f .below n x (omega arith) (inl (refl, refl))) ∙ later i
 
   -- where there is none, it ends
-  neither-says : (n : ℕ) (ss : List Standing) → Neither a section n ss → outcomeFrom a section n ss ≡ Ended
+  neither-says : (n : ℕ) (ss : List Standing) → Neither ts n ss → outcomeFrom ts n ss ≡ Ended
   neither-says n [] none = refl
   neither-says n (x ∷ ss) none =
-      on-passed a n x (rowOf a section x) (outcomeFrom a section (n + 1) ss) (none n x (inl (refl, refl)))
+      on-passed a n x (rowOf ts x) (outcomeFrom ts (n + 1) ss) (none n x (inl (refl, refl)))
       ∙ neither-says (n + 1) ss (λ k s i. none k s (inr i))
 
   module _ (n : ℕ) (ss : List Standing) where
     -- 3 exactly where the first row that is catch or terminate is terminate
-    pub stops : outcomeFrom a section n ss ≡ Stopped ↔ First a section n ss Terminate
+    pub stops : outcomeFrom ts n ss ≡ Stopped ↔ First ts n ss Terminate
     stops = (λ e. go e (says n ss), first-says Terminate (λ k s. Stopped) (on-terminate a) n ss)
       where
-        go : outcomeFrom a section n ss ≡ Stopped → Says n ss (outcomeFrom a section n ss) → First a section n ss Terminate
+        go : outcomeFrom ts n ss ≡ Stopped → Says n ss (outcomeFrom ts n ss) → First ts n ss Terminate
         go e (Chooses f p) = let z : _≡_ {A = ℕ} 0 1 = cc in absurd (omega arith)
         go e (Stops f p) = f
         go e (Ends none p) = let z : _≡_ {A = ℕ} 0 1 = cc in absurd (omega arith)
 
     -- 5 exactly where there is neither
-    pub ends : outcomeFrom a section n ss ≡ Ended ↔ Neither a section n ss
+    pub ends : outcomeFrom ts n ss ≡ Ended ↔ Neither ts n ss
     ends = (λ e. go e (says n ss), neither-says n ss)
       where
-        go : outcomeFrom a section n ss ≡ Ended → Says n ss (outcomeFrom a section n ss) → Neither a section n ss
+        go : outcomeFrom ts n ss ≡ Ended → Says n ss (outcomeFrom ts n ss) → Neither ts n ss
         go e (Chooses f p) = let z : _≡_ {A = ℕ} 0 1 = cc in absurd (omega arith)
         go e (Stops f p) = let z : _≡_ {A = ℕ} 0 1 = cc in absurd (omega arith)
         go e (Ends none p) = none
 
     -- a number and an sp exactly where the first such row is a catch, with that number and that sp at its frame's call
-    pub chooses : (k p : ℕ) → outcomeFrom a section n ss ≡ Chosen k p ↔ FirstCatch a section n ss k p
+    pub chooses : (k p : ℕ) → outcomeFrom ts n ss ≡ Chosen k p ↔ FirstCatch ts n ss k p
     chooses k p = (
       λ e. go e (says n ss),
-      λ (c : FirstCatch a section n ss k p).
+      λ (c : FirstCatch ts n ss k p).
           first-says Catch (λ j s. Chosen j (sp a (s .file))) (on-catch a) n ss (c .first) ∙ rw (c .isNumber, c .isSp),
     )
       where
-        go : outcomeFrom a section n ss ≡ Chosen k p → Says n ss (outcomeFrom a section n ss) → FirstCatch a section n ss k p
+        go : outcomeFrom ts n ss ≡ Chosen k p → Says n ss (outcomeFrom ts n ss) → FirstCatch ts n ss k p
         go e (Chooses f q) =
             let number : f .number ≡ k = cc in
             let pointer : sp a (f .frame .file) ≡ p = cc in

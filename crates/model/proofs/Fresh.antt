@@ -4,9 +4,8 @@ use mathlib.Core.List.{List}
 use Prim.Native.Nat.{_≤_}
 use lib.Dec.{lit≤}
 use lib.ListN.{length}
-use Rattle.arch.specs.Arch.{numbers}
 use Rattle.model.specs.FrameStep.{maxFrames}
-use Rattle.model.specs.Machine.{Open, Machine, Fresh}
+use Rattle.model.specs.Machine.{Open, Machine, Fresh, archOf}
 use Rattle.model.proofs.Chain.{AllLive, Inner, Inv}
 
 -- no frame is open, so that nothing is asked of frames
@@ -19,6 +18,6 @@ fresh-inv m f =
       wide = f .columns;
       values = f .values;
       few = subst (λ (fs : List Open). length fs ≤ maxFrames) (sym (f .empty)) (lit≤ tt);
-      live = subst (AllLive (numbers (m .arch)) (m .stack)) (sym (f .empty)) tt;
-      inner = subst (Inner (m .arch) (m .section) (m .registers)) (sym (f .empty)) tt;
+      live = subst (AllLive (archOf m) (m .stack)) (sym (f .empty)) tt;
+      inner = subst (Inner (m .tables) (m .registers)) (sym (f .empty)) tt;
     }

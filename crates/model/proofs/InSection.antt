@@ -16,7 +16,7 @@ use Rattle.mem.specs.Opening.{opens, bounded, apartFrom, accepted}
 use Rattle.mem.specs.Word.{littleEndian}
 use Rattle.mem.specs.Wrapping.{sum}
 use Rattle.mem.proofs.Tests.{both}
-use Rattle.arch.specs.Arch.{Arch}
+use Rattle.arch.specs.Arch.{Arch, numbers}
 use Rattle.lookup.specs.Field.{word}
 use Rattle.lookup.specs.Record.{startAt, endAt, addressOf, offsetOf, handlersOf, placeOf, recordAt, recordAt2, recordOf}
 use Rattle.lookup.specs.Steps.{Inside}
@@ -27,6 +27,7 @@ use Rattle.lookup.specs.declared.Record.{Record}
 use Rattle.lookup.proofs.Places.{AllIn, chunks-in}
 use Rattle.program.specs.Run.{run}
 use Rattle.program.proofs.Section.{run-same}
+use Rattle.model.specs.Machine.{Tables, recordsOf, memoryWith, tablesAlone, lending}
 
 -- a number in n bytes is below 256 ^ n
 little-below : (n : ℕ) (bs : List ℕ) → ((k : ℕ) → getD bs k 0 < 256) → littleEndian (take n bs) < 256 ^ n
@@ -189,9 +190,9 @@ run-lies section m m′ a r l off = go (l .program)
     go (inr h) = run-same section m m′ (r .limit) (l .limit) a off (r .program) h
 
 -- so it does not depend on the stack
-pub run-in-section : (arch : ℕ) (section stack : Region) (a : Arch) (e : Entry) → opens (record { regions = section ∷ stack ∷ [] }) ≡ true →
-    e ∈ records (section .bytes) (section .base) arch → (off : ℕ) →
-    run (section ∷ stack ∷ []) a (e .function .program) (e .function .limit) off
-    ≡ run (section ∷ []) a (e .function .program) (e .function .limit) off
-run-in-section arch section stack a e o p off =
-    run-lies section (stack ∷ []) [] a (e .function) (record-lies section (section-bounds section (stack ∷ []) o) arch e p) off
+pub run-in-section : (ts : Tables) (stack : Region) (e : Entry) → opens (lending ts stack) ≡ true → e ∈ recordsOf ts → (off : ℕ) →
+    run (memoryWith ts stack) (numbers (ts .arch)) (e .function .program) (e .function .limit) off
+    ≡ run (tablesAlone ts) (numbers (ts .arch)) (e .function .program) (e .function .limit) off
+run-in-section ts stack e o p off =
+    run-lies (ts .section) (stack ∷ []) [] (numbers (ts .arch)) (e .function)
+    (record-lies (ts .section) (section-bounds (ts .section) (stack ∷ []) o) (ts .arch) e p) off

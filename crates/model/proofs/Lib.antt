@@ -29,9 +29,13 @@ pub mod Walks
 pub mod Searching
 pub mod Landings
 pub mod Cleaning
+pub mod Live
 pub mod Calls
+pub mod Usable
+pub mod Narrower
 pub mod FirstRow
 pub mod Exactly
 pub mod ValidRows
 pub mod Corollaries
+pub mod Between
 pub mod Promised

@@ -1,7 +1,7 @@
 -- A live slot read in what the machine lends: the unwinder loads the kept value. Assumes nothing.
 use mathlib.Core.Path.{_≡_, refl, _∙_, ap}
 use mathlib.Core.Bool.{Bool, true, false, _&&_, _||_}
-use mathlib.Core.List.{[], _∷_}
+use mathlib.Core.List.{_∷_}
 use mathlib.Core.Logic.{_⊎_, inl, inr, ⊎-elim}
 use Prim.Native.Nat.{ℕ, _+_, _-_, _*_, _^_, _%_, _≤_, _<_}
 use native.Mathlib.Nat.{add-mod-right, mod-eq-of-lt}
@@ -9,8 +9,8 @@ use native.Mathlib.Omega.{arith}
 use lib.Dec.{eqb, leb}
 use borrow.Author.Tests.{eqb-true, leb-true}
 use Rattle.failure.specs.Outcome.{Answer}
-use Rattle.mem.specs.Memory.{Region, size}
-use Rattle.mem.specs.Opening.{bounded, apart, accepted, opens}
+use Rattle.mem.specs.Memory.{Region, Memory, size}
+use Rattle.mem.specs.Opening.{bounded, apart, apartFrom, accepted, opens}
 use Rattle.mem.specs.Place.{holds, bytesAt}
 use Rattle.mem.specs.Word.{load}
 use Rattle.mem.specs.Wrapping.{difference}
@@ -57,16 +57,17 @@ pub record Accepted (section stack : Region) : Type 0 where
   pub above : 1 ≤ stack .base
   pub away : apart (section .base) (size section) (stack .base) (size stack) ≡ true
 
-pub accepts : (section stack : Region) → opens (record { regions = section ∷ stack ∷ [] }) ≡ true → Accepted section stack
+pub accepts : (section stack : Region) (more : Memory) → opens (record { regions = section ∷ stack ∷ more }) ≡ true →
+    Accepted section stack
 unfolding opens bounded
-accepts section stack e =
-    let (front, back) = both _ (accepted (stack ∷ [])) e in
+accepts section stack more e =
+    let (front, back) = both _ (accepted (stack ∷ more)) e in
     let (_, away) = both (bounded (section .base) (size section)) _ front in
-    let (b, _) = both _ true back in
-    let (c, _) = both (bounded (stack .base) (size stack)) true b in
+    let (b, _) = both _ (accepted more) back in
+    let (c, _) = both (bounded (stack .base) (size stack)) (apartFrom stack more) b in
     let (d, _) = both (leb 1 (stack .base) && leb (stack .base) (2 ^ 62)) (leb (size stack) (2 ^ 31)) c in
     let (l, _) = both (leb 1 (stack .base)) (leb (stack .base) (2 ^ 62)) d in
-    record { above = leb-true 1 (stack .base) l; away = both _ true away .0 }
+    record { above = leb-true 1 (stack .base) l; away = both _ (apartFrom section more) away .0 }
 
 -- below 2^64 a difference that does not wrap is one
 pub difference-is : (x y : ℕ) → y ≤ x → x < 2 ^ 64 → difference x y ≡ x - y
@@ -76,22 +77,22 @@ difference-is x y l h =
 
 -- 8 bytes that lie in the stack are loaded from it
 pub load-stack :
-    (section stack : Region) (x : ℕ) → Accepted section stack → inside stack x ≡ true →
-    load (section ∷ stack ∷ []) 8 x ≡ Answer (word (stack .bytes) (x - stack .base) 8)
+    (section stack : Region) (more : Memory) (x : ℕ) → Accepted section stack → inside stack x ≡ true →
+    load (section ∷ stack ∷ more) 8 x ≡ Answer (word (stack .bytes) (x - stack .base) 8)
 unfolding load bytesAt inside word
-load-stack section stack x g h =
+load-stack section stack more x g h =
     rw (not-both (section .base) (size section) (stack .base) (size stack) x (g .away) h, h)
 
 -- a live slot holds the kept value
 pub slot-loaded :
-    (a : Arch) (section stack : Region) (f : Open) (p : Pair) → Slot a stack f p →
-    opens (record { regions = section ∷ stack ∷ [] }) ≡ true → f .cfa < 2 ^ 64 →
-    loadSlot (section ∷ stack ∷ []) (f .cfa) (p .slot) ≡ Answer (value a (f .kept) (p .reg))
+    (a : Arch) (section stack : Region) (more : Memory) (f : Open) (p : Pair) → Slot a stack f p →
+    opens (record { regions = section ∷ stack ∷ more }) ≡ true → f .cfa < 2 ^ 64 →
+    loadSlot (section ∷ stack ∷ more) (f .cfa) (p .slot) ≡ Answer (value a (f .kept) (p .reg))
 unfolding loadSlot inside
-slot-loaded a section stack f p s e h =
-    let g = accepts section stack e in
+slot-loaded a section stack more f p s e h =
+    let g = accepts section stack more e in
     let there = holds-range (stack .base) (size stack) (address (f .cfa) (p .slot)) 8 (s .within) in
     let same = difference-is (f .cfa) (8 * p .slot) (omega (arith, g .above, there .0)) h in
-    ap (load (section ∷ stack ∷ []) 8) same ∙
-    load-stack section stack (address (f .cfa) (p .slot)) g (s .within) ∙
+    ap (load (section ∷ stack ∷ more) 8) same ∙
+    load-stack section stack more (address (f .cfa) (p .slot)) g (s .within) ∙
     ap Answer (s .holding)

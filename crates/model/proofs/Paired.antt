@@ -8,7 +8,7 @@ use Rattle.failure.specs.Failure.{oneOf}
 use Rattle.mem.specs.Memory.{Region}
 use Rattle.arch.specs.Arch.{numbers}
 use Rattle.frame.specs.Layout.{Pair}
-use Rattle.model.specs.Machine.{Open, Machine, isRegister}
+use Rattle.model.specs.Machine.{Open, Machine, callerInterrupted, isRegister, archOf}
 use Rattle.model.specs.Described.{isSpilled}
 use Rattle.model.specs.Event.{withFrames}
 use Rattle.model.proofs.Chain.{Slot, AllLive, Inner, Inv}
@@ -23,11 +23,12 @@ pub record Pairs (arch : ℕ) (stack : Region) (f : Open) (ps : List Pair) : Typ
   pub each : (p : Pair) → List·Memᴰ p ps → (isRegister (numbers arch) (p .reg) ≡ true) × Slot (numbers arch) stack f p
 
 pub paired-keeps :
-    (m : Machine) (f : Open) (fs : List Open) → m .frames ≡ f ∷ fs → (ps : List Pair) → Pairs (m .arch) (m .stack) f ps → Inv m →
+    (m : Machine) (f : Open) (fs : List Open) → m .frames ≡ f ∷ fs → (ps : List Pair) → Pairs (m .tables .arch) (m .stack) f ps → Inv m →
     Inv (withFrames m (paired f ps ∷ fs))
+unfolding callerInterrupted
 paired-keeps m f fs here ps pairs inv =
-    let (_, live) : AllLive (numbers (m .arch)) (m .stack) (f ∷ fs) = rw here at (inv .live) in
-    let (kept, chain) : Inner (m .arch) (m .section) (m .registers) (f ∷ fs) = rw here at (inv .inner) in
+    let (_, live) : AllLive (archOf m) (m .stack) (f ∷ fs) = rw here at (inv .live) in
+    let (kept, chain) : Inner (m .tables) (m .registers) (f ∷ fs) = rw here at (inv .inner) in
     record {
       known = inv .known;
       accepted = inv .accepted;

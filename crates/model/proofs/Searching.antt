@@ -10,13 +10,13 @@ use Rattle.failure.specs.Outcome.{Answer}
 use Rattle.mem.specs.Memory.{Region}
 use Rattle.mem.proofs.Tests.{both}
 use Rattle.arch.specs.Arch.{Arch, numbers}
-use Rattle.arch.specs.File.{sp, pc}
+use Rattle.arch.specs.File.{sp}
 use Rattle.rows.specs.Row.{Found, None, Pad, cleanup, catch}
 use Rattle.personality.specs.Reason as Reason
 use Rattle.personality.specs.Reason.{searchedCode}
 use Rattle.model.specs.FrameStep.{maxFrames}
 use Rattle.model.specs.Search.{Searched, searchCode, byCode, searchFrom}
-use Rattle.model.specs.Machine.{Open}
+use Rattle.model.specs.Machine.{Open, Tables, lending, memoryWith, callerInterrupted}
 use Rattle.model.specs.Throw.{standing, rowOf}
 use Rattle.model.specs.Sound.{goodFrame, goodFrames}
 use Rattle.model.specs.Expected.{outcomeBy, outcomeFrom}
@@ -43,30 +43,30 @@ by-row a n interrupted file file′ f (Pad pad action) rest e = go (eqb action c
     go true p = rw p
     go false p = caught p (eqb action catch) refl
 
-module _ (arch : ℕ) (section stack : Region) (w : Walks arch section stack) where
+module _ (ts : Tables) (stack : Region) (w : Walks ts stack) where
   pub searches :
       (fs : List Open) (fuel n : ℕ) (first interrupted : Bool) (file file′ : List ℕ) → length fs < fuel → n + length fs ≤ maxFrames →
-      (first ≡ true → n ≡ 0) → Chain arch section first interrupted file fs → AllLive (numbers arch) stack fs →
-      goodFrames (numbers arch) section (standing interrupted file fs) ≡ true → Agrees (numbers arch) file′ file →
-      searchFrom fuel arch (section ∷ stack ∷ []) (frame n interrupted file′)
-      ≡ Answer (outcomeFrom (numbers arch) section n (standing interrupted file fs))
+      (first ≡ true → n ≡ 0) → Chain ts first interrupted file fs → AllLive (numbers (ts .arch)) stack fs →
+      goodFrames ts (standing interrupted file fs) ≡ true → Agrees (numbers (ts .arch)) file′ file →
+      searchFrom fuel (ts .arch) (lending ts stack) (frame n interrupted file′)
+      ≡ Answer (outcomeFrom ts n (standing interrupted file fs))
   searches fs zero n first interrupted file file′ enough few zeroth chain live good agrees = absurd (omega arith)
   searches [] (suc fuel) n first interrupted file file′ enough few zeroth chain live good agrees =
       rw (w .ends n interrupted file file′ chain agrees)
   searches (f ∷ fs) (suc fuel) n first interrupted file file′ enough few zeroth chain live good agrees =
-      let goods = both (goodFrame (numbers arch) section (stood interrupted file f)) _ good in
-      let g : Goes arch (section ∷ stack ∷ []) n interrupted file′ f =
+      let goods = both (goodFrame ts (stood interrupted file f)) _ good in
+      let g : Goes ts stack n interrupted file′ f =
       w .goes n first interrupted file file′ f (omega arith) zeroth (chain .0) (live .0) agrees in
       let rest =
-      searches fs fuel (n + 1) false false (f .kept) (g .next) (omega arith) (omega arith) (λ e. absurd-bool e) (chain .1) (live .1) (goods .1)
+      searches fs fuel (n + 1) false (callerInterrupted f) (f .kept) (g .next) (omega arith) (omega arith) (λ e. absurd-bool e) (chain .1) (live .1) (goods .1)
       (g .agrees) in
       rw (
         g .steps,
-        ap (λ (x : ℕ). Reason.rowOf (numbers arch) (section ∷ stack ∷ []) interrupted (f .entry .function) x) (agrees .pc),
+        ap (λ (x : ℕ). Reason.rowOf (numbers (ts .arch)) (memoryWith ts stack) interrupted (f .entry .function) x) (agrees .pc),
         w .row first interrupted file f (chain .0) (goods .0),
         rest,
       )
-      (by-row (numbers arch) n interrupted file file′ f (rowOf (numbers arch) section (stood interrupted file f)) _ (agrees .sp))
+      (by-row (numbers (ts .arch)) n interrupted file file′ f (rowOf ts (stood interrupted file f)) _ (agrees .sp))
     where
       absurd-bool : false ≡ true → n + 1 ≡ 0
       absurd-bool e = let z : _≡_ {A = ℕ} 0 1 = cc in absurd (omega arith)

@@ -1,6 +1,6 @@
 -- A number written into a region: the region keeps its place, the number stands there, and live slots that are not met are as they were.
 -- Assumes nothing.
-use mathlib.Core.Path.{_≡_, sym, _∙_, ap}
+use mathlib.Core.Path.{_≡_, refl, sym, _∙_, ap}
 use mathlib.Core.Bool.{true, false, not, _&&_}
 use mathlib.Core.Logic.{_⊎_, inl, inr, ⊎-elim}
 use mathlib.Core.List.{List, [], _∷_, List·Memᴰ, List·Memᴰ·cases-cons, List·Memᴰ·not-nil}
@@ -8,14 +8,14 @@ use Prim.Native.Nat.{ℕ, _+_, _-_, _^_, _≤_, _<_}
 use native.Mathlib.Omega.{arith}
 use lib.Dec.{ltb}
 use borrow.Author.Tests.{lt-ltb}
-use Rattle.mem.specs.Memory.{Region, size}
-use Rattle.mem.specs.Opening.{opens}
+use Rattle.mem.specs.Memory.{Region, Memory, size}
+use Rattle.mem.specs.Opening.{apartFrom, opens}
 use Rattle.mem.proofs.Tests.{lt-or-le, both}
 use Rattle.mem.proofs.Place.{holds-range}
 use Rattle.arch.specs.Arch.{Arch}
 use Rattle.lookup.specs.Field.{word}
 use Rattle.frame.specs.Layout.{Pair}
-use Rattle.model.specs.Machine.{Open, value, address, inside, meet, clearOf, clear, written}
+use Rattle.model.specs.Machine.{Open, Tables, lending, value, address, inside, meet, clearOf, clear, written}
 use Rattle.model.proofs.Chain.{Slot, AllLive}
 use Rattle.model.proofs.Store.{put-length, put-there, put-apart}
 
@@ -108,9 +108,20 @@ written-live a r x v within (f ∷ fs) e live =
     let slot = clear-slot x (f .cfa) (f .spilled) here in
     (λ p i. written-slot a r x v within f p (slot p i) (live .0 p i), written-live a r x v within fs rest (live .1))
 
+-- it shares no address with others, if it did not before
+written-away : (r : Region) (x v : ℕ) → inside r x ≡ true → (more : Memory) → apartFrom (written r x v) more ≡ apartFrom r more
+unfolding written
+written-away r x v within [] = refl
+written-away r x v within (s ∷ more) = rw (written-size r x v within, written-away r x v within more)
+
 -- an accepted opening stays accepted
-pub written-opens :
-    (s r : Region) (x v : ℕ) → inside r x ≡ true → opens (record { regions = s ∷ r ∷ [] }) ≡ true →
-    opens (record { regions = s ∷ written r x v ∷ [] }) ≡ true
+written-opens :
+    (s r : Region) (x v : ℕ) (more : Memory) → inside r x ≡ true → opens (record { regions = s ∷ r ∷ more }) ≡ true →
+    opens (record { regions = s ∷ written r x v ∷ more }) ≡ true
 unfolding opens written
-written-opens s r x v within h = rw (written-size r x v within) h
+written-opens s r x v more within h = rw (written-size r x v within, written-away r x v within more) h
+
+-- so does what is lent with the tables
+pub written-lent :
+    (ts : Tables) (r : Region) (x v : ℕ) → inside r x ≡ true → opens (lending ts r) ≡ true → opens (lending ts (written r x v)) ≡ true
+written-lent ts r x v within h = written-opens (ts .section) r x v [] within h

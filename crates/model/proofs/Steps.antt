@@ -1,8 +1,8 @@
 -- Every event keeps the invariant, and so does every list of events. Assumes nothing.
 use mathlib.Core.List.{List, [], _∷_}
-use Rattle.lookup.specs.Tables.{Entry, records, named}
+use Rattle.lookup.specs.Tables.{Entry, named}
 use Rattle.lookup.proofs.Sounds.{named-in}
-use Rattle.model.specs.Machine.{Machine, Fresh}
+use Rattle.model.specs.Machine.{Machine, Fresh, recordsOf}
 use Rattle.model.specs.Event.{Event, Call, Spill, Change, Reload, Move, Write, step, steps}
 use Rattle.model.proofs.Chain.{Inv}
 use Rattle.model.proofs.Fresh.{fresh-inv}
@@ -13,7 +13,7 @@ use Rattle.model.proofs.Entering.{call-keeps}
 -- an event keeps the invariant
 pub step-keeps : (m : Machine) (e : Event) → Inv m → Inv (step m e)
 step-keeps m (Call chunk index ret) i =
-    let es : List Entry = records (m .section .bytes) (m .section .base) (m .arch) in
+    let es : List Entry = recordsOf (m .tables) in
     call-keeps m ret (named chunk index es) (named-in chunk index es) i
 step-keeps m (Spill reg slot) i = spill-keeps m reg slot i
 step-keeps m (Change reg v) i = change-keeps m reg v i

@@ -1,4 +1,4 @@
--- Demand 3: every landing, and no other. Assumes nothing.
+-- Demand 3: every landing, and no other; over a live stack, and so over the stack of the throw. Assumes nothing.
 use mathlib.Core.Bool.{true}
 use mathlib.Core.List.{List, [], _∷_}
 use mathlib.Core.Path.{_≡_, refl, sym, _∙_, subst}
@@ -9,20 +9,22 @@ use lib.ListN.{length-set}
 use lib.Seq.{getD-set-same, getD-set-other}
 use borrow.Author.Tests.{ltb-true}
 use Rattle.failure.specs.Outcome.{Answer}
-use Rattle.arch.specs.Arch.{numbers}
+use Rattle.mem.specs.Memory.{Region}
+use Rattle.mem.specs.Opening.{opens}
 use Rattle.arch.specs.File.{pcColumn, sp, pc}
 use Rattle.lookup.specs.Record.{holds}
-use Rattle.lookup.specs.Sound.{sound}
 use Rattle.model.specs.FrameStep.{lookedUp}
 use Rattle.model.specs.Search.{Searched, Chosen, Stopped, Ended, search}
 use Rattle.model.specs.Unwinding.{frame0, raise, raised}
-use Rattle.model.specs.Machine.{Open, Machine}
+use Rattle.model.specs.Machine.{Open, Machine, lentBy, archOf}
 use Rattle.model.specs.Described.{described}
 use Rattle.model.specs.Event.{steps}
 use Rattle.model.specs.Throw.{Throw, lookedAt, thrown, throwable, throwAllowed, framesAt}
-use Rattle.model.specs.Sound.{Sound}
+use Rattle.model.specs.Sound.{Sound, SoundTables}
 use Rattle.model.specs.Expected.{outcome, due, dueBy, padsFrom}
-use Rattle.model.specs.Demand.{raisedBy, unwindingOf, EveryLanding, Demand3}
+use Rattle.model.specs.OtherStack.{withStack}
+use Rattle.model.specs.Demand.{Regular, raisedBy, unwindingOf, EveryLanding, Demand3}
+use Rattle.model.specs.LiveStack.{Usable, Demand3Live}
 use Rattle.model.proofs.Chain.{Inner, Chain, Inv, Agrees}
 use Rattle.model.proofs.Guard.{each}
 use Rattle.model.proofs.Files.{pointers}
@@ -35,44 +37,47 @@ use Rattle.model.proofs.Searching.{searches}
 use Rattle.model.proofs.Cleaning.{Amid}
 use Rattle.model.proofs.Steps.{steps-inv}
 use Rattle.model.proofs.Calls.{opened-known, Due, None, Some, calls}
+use Rattle.model.proofs.Usable.{regular-usable}
+use Rattle.model.proofs.Narrower.{narrower}
 
 module _ (m : Machine) (i : Inv m) where
-  -- tables and memory serve the phases
-  pub walks : sound (m .section .bytes) (m .section .base) (m .arch) → Walks (m .arch) (m .section) (m .stack)
-  walks s =
+  -- tables and memory serve the phases, beside every stack that opens
+  pub walks : SoundTables (m .tables) → (stack : Region) → opens (lentBy (withStack m stack)) ≡ true →
+      Walks (m .tables) stack
+  walks s stack accepted =
       record {
         goes =
             λ n first interrupted file file′ f few zeroth h live agrees.
             let c =
-            caller-agrees (m .arch) (m .section) (m .stack) first interrupted file file′ f (i .accepted) h live agrees
-            (λ v off. run-in-section (m .arch) (m .section) (m .stack) (numbers (m .arch)) (f .entry) (i .accepted) (h .kept .isRecord) off) in
-            goes (m .arch) (m .section) (m .stack) s n first interrupted file file′ f few zeroth h agrees (c .next) (c .is) (c .agrees);
-        ends = ends (m .arch) (m .section) (m .stack) s;
-        row = λ first interrupted file f h good. row-found (m .arch) (m .section) (m .stack) first interrupted file f (i .accepted) (i .bytes) s h good;
+            caller-agrees (m .tables) stack first interrupted file file′ f accepted h live agrees
+            (λ v off. run-in-section (m .tables) stack (f .entry) accepted (h .kept .isRecord) off) in
+            goes (m .tables) stack s n first interrupted file file′ f few zeroth h agrees (c .next) (c .is) (c .agrees);
+        ends = ends (m .tables) stack s;
+        row = λ first interrupted file f h good. row-found (m .tables) stack first interrupted file f accepted (i .bytes) s h good;
       }
 
   -- the registers at a throw are the machine's, with its pc
   thrown-pc : (t : Throw) → pc (thrown m t) ≡ t .pc
   thrown-pc t = let wide = i .wide in getD-set-same (m .registers) pcColumn (t .pc) 0 (omega arith)
 
-  thrown-sp : (t : Throw) → sp (numbers (m .arch)) (thrown m t) ≡ sp (numbers (m .arch)) (m .registers)
+  thrown-sp : (t : Throw) → sp (archOf m) (thrown m t) ≡ sp (archOf m) (m .registers)
   thrown-sp t =
-      let below = pointers (m .arch) .spBelow in
-      getD-set-other (m .registers) pcColumn (numbers (m .arch) .sp) (t .pc) 0 (λ e. omega arith)
+      let below = pointers (m .tables .arch) .spBelow in
+      getD-set-other (m .registers) pcColumn (archOf m .sp) (t .pc) 0 (λ e. omega arith)
 
   -- the frames at a throw within the rules
-  pub thrown-chain : (t : Throw) → throwAllowed m t ≡ true → Chain (m .arch) (m .section) true (t .interrupted) (thrown m t) (m .frames)
+  pub thrown-chain : (t : Throw) → throwAllowed m t ≡ true → Chain (m .tables) true (t .interrupted) (thrown m t) (m .frames)
   unfolding throwAllowed
   thrown-chain t = go (m .frames) (i .inner)
     where
-      go : (fs : List Open) → Inner (m .arch) (m .section) (m .registers) fs → throwable m t fs ≡ true →
-          Chain (m .arch) (m .section) true (t .interrupted) (thrown m t) fs
+      go : (fs : List Open) → Inner (m .tables) (m .registers) fs → throwable m t fs ≡ true →
+          Chain (m .tables) true (t .interrupted) (thrown m t) fs
       go [] inner e = let z : _≡_ {A = ℕ} 0 1 = cc in absurd (omega arith)
       go (f ∷ fs) inner e =
           let (above, (held, (fits, _))) =
           each (ltb 0 (t .pc))
           (holds (f .entry .function) (lookedAt t)
-          ∷ described (numbers (m .arch)) (m .section) f (thrown m t) (t .interrupted) (lookedAt t) ∷ [])
+          ∷ described (m .tables) f (thrown m t) (t .interrupted) (lookedAt t) ∷ [])
           e in
           let here : pc (thrown m t) ≡ t .pc = thrown-pc t in (
             record {
@@ -82,7 +87,7 @@ module _ (m : Machine) (i : Inv m) where
               fits =
                   subst
                   (λ (x : ℕ).
-                  described (numbers (m .arch)) (m .section) f (thrown m t) (t .interrupted) (lookedUp (t .interrupted) x) ≡ true)
+                  described (m .tables) f (thrown m t) (t .interrupted) (lookedUp (t .interrupted) x) ≡ true)
                   (sym here) fits;
               atMost = subst (λ (x : ℕ). x ≤ f .cfa) (sym (thrown-sp t)) (inner .1 .0);
               lower = λ p. let z : _≡_ {A = ℕ} 0 1 = cc in absurd (omega arith);
@@ -91,7 +96,7 @@ module _ (m : Machine) (i : Inv m) where
           )
 
   -- a file agrees with itself
-  itself : (t : Throw) → Agrees (numbers (m .arch)) (thrown m t) (thrown m t)
+  itself : (t : Throw) → Agrees (archOf m) (thrown m t) (thrown m t)
   itself t =
       record {
         wide = length-set (m .registers) pcColumn (t .pc) ∙ i .wide;
@@ -107,7 +112,7 @@ module _ (m : Machine) (i : Inv m) where
     throws =
         let few = i .few in
         opened-known m _ (i .accepted) (i .known) ∙
-        searches (m .arch) (m .section) (m .stack) (walks (s .tables)) (m .frames) 1025 0 true (t .interrupted) (thrown m t) (thrown m t)
+        searches (m .tables) (m .stack) (walks (s .tables) (m .stack) (i .accepted)) (m .frames) 1025 0 true (t .interrupted) (thrown m t) (thrown m t)
         (omega arith) (omega arith) (λ e. refl) (thrown-chain t allowed) (i .live) (s .frames) (itself t)
 
     -- what is due after it
@@ -117,7 +122,7 @@ module _ (m : Machine) (i : Inv m) where
       where
         go : (o : Searched) → outcome m t ≡ o →
             Due m (raised (frame0 (m .registers) (t .pc) (t .interrupted)) exception (Answer o))
-            (dueBy o (padsFrom (numbers (m .arch)) (m .section) 0 (framesAt m t)))
+            (dueBy o (padsFrom (m .tables) 0 (framesAt m t)))
         go (Chosen k p) e =
             Some refl
             (Amid true (thrown m t) (m .frames)
@@ -125,7 +130,7 @@ module _ (m : Machine) (i : Inv m) where
               few = omega (arith, i .few);
               zeroth = λ p. refl;
               chain = thrown-chain t allowed;
-              live = i .live;
+              from = refl;
               good = s .frames;
               agrees = itself t;
               chosen = e;
@@ -134,16 +139,28 @@ module _ (m : Machine) (i : Inv m) where
         go Stopped e = None refl refl
         go Ended e = None refl refl
 
--- every machine that the invariant holds of
-pub every-landing : (m : Machine) → Inv m → (t : Throw) → throwAllowed m t ≡ true → Sound m t → (exception : ℕ) → EveryLanding m t exception
-every-landing m i t allowed s exception =
+-- every machine that the invariant holds of, over a live stack
+pub every-landing-live : (m : Machine) → Inv m → (t : Throw) → throwAllowed m t ≡ true → Sound m t → (exception : ℕ) →
+    EveryLanding (Usable m) m t exception
+every-landing-live m i t allowed s exception =
     record {
       throws = throws m i t allowed s;
       lands =
           λ cs a.
-          calls m (i .accepted) (i .known) (walks m i (s .tables)) cs (unwindingOf m t exception) (due m t)
+          calls m (i .known) (i .live) (walks m i (s .tables)) cs (unwindingOf m t exception) (due m t)
           (starts m i t allowed s exception) a;
     }
+
+-- and so over the stack of the throw
+pub every-landing : (m : Machine) → Inv m → (t : Throw) → throwAllowed m t ≡ true → Sound m t → (exception : ℕ) →
+    EveryLanding (Regular m) m t exception
+every-landing m i t allowed s exception =
+    narrower (Usable m) (Regular m) (λ u c e. subst (Usable m u) (sym e) (regular-usable m i u)) m t exception
+    (every-landing-live m i t allowed s exception)
+
+-- every landing, and no other, over a live stack
+pub demand3-live : Demand3Live
+demand3-live m fresh es t allowed s exception = every-landing-live (steps m es) (steps-inv m fresh es) t allowed s exception
 
 -- every landing, and no other
 pub demand3 : Demand3

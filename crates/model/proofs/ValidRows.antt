@@ -12,7 +12,7 @@ use Rattle.failure.specs.Outcome.{Outcome, Refused, Answer, _>>=_}
 use Rattle.mem.specs.Memory.{Memory}
 use Rattle.mem.specs.Word.{load}
 use Rattle.mem.proofs.Tests.{both}
-use Rattle.arch.specs.Arch.{Arch, numbers}
+use Rattle.arch.specs.Arch.{Arch}
 use Rattle.arch.specs.File.{pc}
 use Rattle.leb.specs.Reader.{Read}
 use Rattle.lookup.specs.declared.Record.{Record}
@@ -22,7 +22,7 @@ use Rattle.rows.specs.Handler.{Entry, entryAt, leftBreaks, rightBreaks, judged,
 use Rattle.rows.specs.Handler2.{uleb, nextDelta, matched, decide, rowsFrom, handler2}
 use Rattle.personality.specs.Reason as Reason
 use Rattle.personality.specs.Reason.{rowless, offsetIn, rowAfter}
-use Rattle.model.specs.Machine.{Open, Machine}
+use Rattle.model.specs.Machine.{Open, Machine, archOf, callerInterrupted, lentBy}
 use Rattle.model.specs.Throw.{Throw, throwAllowed, thrown, Standing, standing, framesAt, rowOf}
 use Rattle.model.specs.Sound.{Sound, goodFrame, goodFrames}
 use Rattle.model.specs.Exactly.{Terminate, Numbered}
@@ -113,24 +113,24 @@ row-valid a m interrupted r at =
 
 -- every row at a throw within the rules under a sound section
 pub rows-valid : (m : Machine) → Inv m → (t : Throw) → throwAllowed m t ≡ true → Sound m t → (k : ℕ) (s : Standing) →
-    Numbered 0 (framesAt m t) k s → Valid (rowOf (numbers (m .arch)) (m .section) s)
+    Numbered 0 (framesAt m t) k s → Valid (rowOf (m .tables) s)
 rows-valid m i t allowed s =
     go (m .frames) 0 true (t .interrupted) (thrown m t) (thrown-chain m i t allowed) (s .frames)
   where
-    go : (fs : List Open) (n : ℕ) (first interrupted : Bool) (file : List ℕ) → Chain (m .arch) (m .section) first interrupted file fs →
-        goodFrames (numbers (m .arch)) (m .section) (standing interrupted file fs) ≡ true → (k : ℕ) (x : Standing) →
-        Numbered n (standing interrupted file fs) k x → Valid (rowOf (numbers (m .arch)) (m .section) x)
+    go : (fs : List Open) (n : ℕ) (first interrupted : Bool) (file : List ℕ) → Chain (m .tables) first interrupted file fs →
+        goodFrames (m .tables) (standing interrupted file fs) ≡ true → (k : ℕ) (x : Standing) →
+        Numbered n (standing interrupted file fs) k x → Valid (rowOf (m .tables) x)
     go [] n first interrupted file chain good k x j = absurd j
     go (f ∷ fs) n first interrupted file chain good k x (inl e) =
-        let here = both (goodFrame (numbers (m .arch)) (m .section) (stood interrupted file f)) _ good .0 in
+        let here = both (goodFrame (m .tables) (stood interrupted file f)) _ good .0 in
         let found =
-        row-found (m .arch) (m .section) (m .stack) first interrupted file f (i .accepted) (i .bytes) (s .tables) (chain .0) here in
-        subst (λ (y : Standing). Valid (rowOf (numbers (m .arch)) (m .section) y)) (sym (e .1))
+        row-found (m .tables) (m .stack) first interrupted file f (i .accepted) (i .bytes) (s .tables) (chain .0) here in
+        subst (λ (y : Standing). Valid (rowOf (m .tables) y)) (sym (e .1))
         (subst Fine found
-        (row-valid (numbers (m .arch)) (m .section ∷ m .stack ∷ []) interrupted (f .entry .function) (pc file)))
+        (row-valid (archOf m) (lentBy m .regions) interrupted (f .entry .function) (pc file)))
     go (f ∷ fs) n first interrupted file chain good k x (inr j) =
-        go fs (n + 1) false false (f .kept) (chain .1)
-        (both (goodFrame (numbers (m .arch)) (m .section) (stood interrupted file f)) _ good .1) k x j
+        go fs (n + 1) false (callerInterrupted f) (f .kept) (chain .1)
+        (both (goodFrame (m .tables) (stood interrupted file f)) _ good .1) k x j
 
 -- of the valid rows, terminate is action 2
 pub terminate-valid : (pad action : ℕ) → Valid (Pad pad action) → Terminate (Pad pad action) → action ≡ terminate

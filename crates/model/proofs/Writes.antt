@@ -6,16 +6,16 @@ use mathlib.Core.List.{List, [], _∷_, List·Memᴰ, List·Memᴰ·cases-cons}
 use Prim.Native.Nat.{ℕ, _^_, _<_}
 use lib.Dec.{eqb, leb, ltb}
 use borrow.Author.Tests.{eqb-true}
-use Rattle.arch.specs.Arch.{Arch, numbers}
+use Rattle.arch.specs.Arch.{Arch}
 use Rattle.frame.specs.Layout.{Pair}
-use Rattle.model.specs.Machine.{Open, Machine, column, isRegister, value, address, inside, clear}
+use Rattle.model.specs.Machine.{Open, Machine, column, isRegister, value, address, inside, clear, archOf}
 use Rattle.model.specs.Described.{isSpilled}
 use Rattle.model.specs.Event.{spillAllowed, spilling, writeAllowed, withWritten, withFrames, spill, write}
 use Rattle.model.proofs.Chain.{Slot, AllLive, Inner, Inv}
 use Rattle.model.proofs.Guard.{each}
 use Rattle.model.proofs.Allowed.{if-allowed, if-open}
 use Rattle.model.proofs.Paired.{paired-keeps}
-use Rattle.model.proofs.Slots.{written-holds, written-live, written-opens}
+use Rattle.model.proofs.Slots.{written-holds, written-live, written-lent}
 
 -- a place that may be written: it lies in the stack and meets no live slot
 record Free (m : Machine) (x : ℕ) : Type 0 where
@@ -34,12 +34,12 @@ written-keeps : (m : Machine) (x v : ℕ) → Free m x → Inv m → Inv (withWr
 written-keeps m x v place inv =
     record {
       known = inv .known;
-      accepted = written-opens (m .section) (m .stack) x v (place .within) (inv .accepted);
+      accepted = written-lent (m .tables) (m .stack) x v (place .within) (inv .accepted);
       bytes = inv .bytes;
       wide = inv .wide;
       values = inv .values;
       few = inv .few;
-      live = written-live (numbers (m .arch)) (m .stack) x v (place .within) (m .frames) (place .free) (inv .live);
+      live = written-live (archOf m) (m .stack) x v (place .within) (m .frames) (place .free) (inv .live);
       inner = inv .inner;
     }
 
@@ -52,14 +52,14 @@ module _ (m : Machine) (f : Open) (reg slot : ℕ) where
   -- what the rules of a spill give
   record Spilled : Type 0 where
     pub place : Free m (address (f .cfa) slot)
-    pub register : isRegister (numbers (m .arch)) reg ≡ true
-    pub same : value (numbers (m .arch)) (m .registers) reg ≡ value (numbers (m .arch)) (f .kept) reg
+    pub register : isRegister (archOf m) reg ≡ true
+    pub same : value (archOf m) (m .registers) reg ≡ value (archOf m) (f .kept) reg
 
   -- they give it
   spill-rules : spillAllowed m f reg slot ≡ true → Spilled
   unfolding spillAllowed
   spill-rules e =
-      let a : Arch = numbers (m .arch) in
+      let a : Arch = archOf m in
       let x : ℕ = address (f .cfa) slot in
       let place : List Bool = inside (m .stack) x ∷ clear x (m .frames) ∷ [] in
       let alike : Bool = eqb (value a (m .registers) reg) (value a (f .kept) reg) in
@@ -85,12 +85,12 @@ module _ (f : Open) (reg slot : ℕ) where
 
   -- a register that was written into its slot is spilled
   spilling-keeps :
-      (m : Machine) (fs : List Open) → m .frames ≡ f ∷ fs → isRegister (numbers (m .arch)) reg ≡ true →
-      Slot (numbers (m .arch)) (m .stack) f (new reg slot) → Inv m → Inv (withFrames m (spilling f reg slot ∷ fs))
+      (m : Machine) (fs : List Open) → m .frames ≡ f ∷ fs → isRegister (archOf m) reg ≡ true →
+      Slot (archOf m) (m .stack) f (new reg slot) → Inv m → Inv (withFrames m (spilling f reg slot ∷ fs))
   spilling-keeps m fs e known first inv =
-      let a : Arch = numbers (m .arch) in
+      let a : Arch = archOf m in
       let (here, _) : AllLive a (m .stack) (f ∷ fs) = rw e at (inv .live) in
-      let (kept, _) : Inner (m .arch) (m .section) (m .registers) (f ∷ fs) = rw e at (inv .inner) in
+      let (kept, _) : Inner (m .tables) (m .registers) (f ∷ fs) = rw e at (inv .inner) in
       paired-keeps m f fs e (new reg slot ∷ f .spilled)
       (record {
         returns = ⊎-elim (λ (s : isSpilled (f .spilled) (a .ra) ≡ true). inl (rw s (or-true (eqb reg (a .ra))))) inr (kept .returns);
@@ -101,9 +101,9 @@ module _ (f : Open) (reg slot : ℕ) where
       inv
 
 -- a register's value is a number of 64 bits
-value-below : (m : Machine) (reg : ℕ) → Inv m → value (numbers (m .arch)) (m .registers) reg < 2 ^ 64
+value-below : (m : Machine) (reg : ℕ) → Inv m → value (archOf m) (m .registers) reg < 2 ^ 64
 unfolding value
-value-below m reg inv = inv .values (column (numbers (m .arch)) reg)
+value-below m reg inv = inv .values (column (archOf m) reg)
 
 -- the event Spill
 pub spill-keeps : (m : Machine) (reg slot : ℕ) → Inv m → Inv (spill m reg slot (m .frames))
@@ -112,7 +112,7 @@ spill-keeps m reg slot inv =
     if-allowed m _ (spillAllowed m f reg slot) inv λ (g : spillAllowed m f reg slot ≡ true).
     let s = spill-rules m f reg slot g in
     let x : ℕ = address (f .cfa) slot in
-    let v : ℕ = value (numbers (m .arch)) (m .registers) reg in
+    let v : ℕ = value (archOf m) (m .registers) reg in
     spilling-keeps f reg slot (withWritten m x v) fs here (s .register)
-    (written-holds (numbers (m .arch)) (m .stack) f (new reg slot) v (s .place .within) (value-below m reg inv) (s .same))
+    (written-holds (archOf m) (m .stack) f (new reg slot) v (s .place .within) (value-below m reg inv) (s .same))
     (written-keeps m x v (s .place) inv)

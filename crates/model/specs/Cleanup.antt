@@ -6,7 +6,7 @@ use lib.Dec.{eqb, ltb}
 use Rattle.failure.specs.Choice.{if_then_else_}
 use Rattle.failure.specs.Outcome.{Outcome, Refused, Answer, _>>=_}
 use Rattle.failure.specs.Failure.{TooManyFrames, HandlerFrameMissed}
-use Rattle.mem.specs.Memory.{Memory}
+use Rattle.mem.specs.Memory.{Lent}
 use Rattle.arch.specs.Arch.{Arch, numbers}
 use Rattle.arch.specs.File.{sp, pc}
 use Rattle.lookup.specs.declared.Record.{Record}
@@ -57,20 +57,20 @@ byRow a exception c f r next rest row =
     if ltb (f .number) (c .number) then below a exception f r next rest row else chosen a exception c f r next row
 
 -- a frame after its step: an end before the chosen one is 22; then its row
-abbrev pub cleanAt : ℕ → Memory → ℕ → Choice → Frame → (Frame → Outcome Cleaned) → Step → Outcome Cleaned
-cleanAt arch m exception c f rest End = Refused HandlerFrameMissed
-cleanAt arch m exception c f rest (Past r next) = do
-  row ← rowOf (numbers arch) m (f .interrupted) r (pc (f .file))
+abbrev pub cleanAt : ℕ → Lent → ℕ → Choice → Frame → (Frame → Outcome Cleaned) → Step → Outcome Cleaned
+cleanAt arch l exception c f rest End = Refused HandlerFrameMissed
+cleanAt arch l exception c f rest (Past r next) = do
+  row ← rowOf (numbers arch) (l .regions) (f .interrupted) r (pc (f .file))
   byRow (numbers arch) exception c f r next (rest next) row
 
 -- the next landing from a frame on; the first number is how many frames at most. With 1,025 or more of them the line for 0 is never
 -- met
-abbrev pub cleanFrom : ℕ → ℕ → Memory → ℕ → Choice → Frame → Outcome Cleaned
-cleanFrom zero arch m exception c f = Refused TooManyFrames
-cleanFrom (suc n) arch m exception c f =
-    frameStep arch m f >>= cleanAt arch m exception c f (λ next. cleanFrom n arch m exception c next)
+abbrev pub cleanFrom : ℕ → ℕ → Lent → ℕ → Choice → Frame → Outcome Cleaned
+cleanFrom zero arch l exception c f = Refused TooManyFrames
+cleanFrom (suc n) arch l exception c f =
+    frameStep arch l f >>= cleanAt arch l exception c f (λ next. cleanFrom n arch l exception c next)
 
 -- the next landing: finished where the chosen frame has landed
-unfoldable pub clean : ℕ → Memory → ℕ → Choice → Frame → Outcome Cleaned
-clean arch m exception c f =
-    if ltb (c .number) (f .number) then Answer Finished else cleanFrom 1025 arch m exception c f
+unfoldable pub clean : ℕ → Lent → ℕ → Choice → Frame → Outcome Cleaned
+clean arch l exception c f =
+    if ltb (c .number) (f .number) then Answer Finished else cleanFrom 1025 arch l exception c f

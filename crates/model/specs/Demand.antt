@@ -7,14 +7,14 @@ use Prim.Native.Nat.{ℕ}
 use lib.ListN.{length}
 use Rattle.failure.specs.Outcome.{Outcome, Refused, Answer}
 use Rattle.mem.specs.Memory.{Lent}
-use Rattle.arch.specs.Arch.{Arch, numbers}
+use Rattle.arch.specs.Arch.{Arch}
 use Rattle.arch.specs.File.{sp, pc}
 use Rattle.model.specs.declared.Unwinding.{Unwinding}
 use Rattle.model.specs.Cleanup as Cleanup
 use Rattle.model.specs.Cleanup.{Cleaned}
 use Rattle.model.specs.Search.{Searched}
 use Rattle.model.specs.Unwinding.{frame0, raise, raised, resume, resumed}
-use Rattle.model.specs.Machine.{Machine, Fresh, lentBy, value}
+use Rattle.model.specs.Machine.{Machine, Fresh, archOf, lentBy, value}
 use Rattle.model.specs.Event.{Event, steps}
 use Rattle.model.specs.Throw.{Throw, throwAllowed}
 use Rattle.model.specs.Sound.{Sound}
@@ -32,7 +32,11 @@ answerOf c = resume (c .lent) (c .arch) (c .unwinding)
 
 -- the regular call: the throw's architecture, the same bytes at the same addresses, and the current unwinding
 abbrev pub regular : Machine → Unwinding → ResumeCall
-regular m u = record { arch = m .arch; lent = lentBy m; unwinding = u }
+regular m u = record { arch = m .tables .arch; lent = lentBy m; unwinding = u }
+
+-- a call is that one
+abbrev pub Regular : Machine → Unwinding → ResumeCall → Type 0
+Regular m u c = c ≡ regular m u
 
 -- the current unwinding after a call that was given v and came to that: what it returned, unless it was refused
 abbrev pub currentBy : Unwinding → Unwinding → Outcome Cleaned → Unwinding
@@ -48,15 +52,19 @@ abbrev pub IsRefused : Outcome Cleaned → Type 0
 IsRefused (Refused n) = Unit
 IsRefused (Answer x) = ⊥
 
--- every call of the list that is not regular is refused
-abbrev pub Admissible : Machine → Unwinding → List ResumeCall → Type 0
-Admissible m u [] = Unit
-Admissible m u (c ∷ cs) = ((c ≡ regular m u) ⊎ IsRefused (answerOf c)) × Admissible m (current u c) cs
+-- a kind of calls, by the current unwinding
+abbrev pub Kind : Type 1
+Kind = Unwinding → ResumeCall → Type 0
 
--- no regular call of the list is refused
-abbrev pub RegularServed : Machine → Unwinding → List ResumeCall → Type 0
-RegularServed m u [] = Unit
-RegularServed m u (c ∷ cs) = (c ≡ regular m u → IsRefused (answerOf c) → ⊥) × RegularServed m (current u c) cs
+-- every call of the list that is not of a kind is refused
+abbrev pub Admissible : Kind → Unwinding → List ResumeCall → Type 0
+Admissible Of u [] = Unit
+Admissible Of u (c ∷ cs) = (Of u c ⊎ IsRefused (answerOf c)) × Admissible Of (current u c) cs
+
+-- no call of the list that is of a kind is refused
+abbrev pub Served : Kind → Unwinding → List ResumeCall → Type 0
+Served Of u [] = Unit
+Served Of u (c ∷ cs) = (Of u c → IsRefused (answerOf c) → ⊥) × Served Of (current u c) cs
 
 -- an answer as it is compared: of a landing the frame number, sp, pc and preserved registers
 abbrev pub compared : Arch → Cleaned → Compared
@@ -77,23 +85,27 @@ answers a (c ∷ cs) = unlessRefused a (answerOf c) (answers a cs)
 
 -- the throw call gets the machine's architecture, section, registers and stack, the event's pc, and whether it is an Interrupt
 unfoldable pub raisedBy : Machine → Throw → Outcome Searched
-raisedBy m t = raise (lentBy m) (m .arch) (m .registers) (t .pc) (t .interrupted)
+raisedBy m t = raise (lentBy m) (m .tables .arch) (m .registers) (t .pc) (t .interrupted)
 
 -- the unwinding that it hands back
 unfoldable pub unwindingOf : Machine → Throw → ℕ → Unwinding
 unwindingOf m t exception = raised (frame0 (m .registers) (t .pc) (t .interrupted)) exception (raisedBy m t)
 
--- every landing, and no other, after a throw: it answers the first catch's number and sp, or 3, or 5; and for every admissible list
--- of sweep calls no regular one is refused, and the answers are as many as there are of: the landings due, in order, then finished
--- again and again
-pub record EveryLanding (m : Machine) (t : Throw) (exception : ℕ) : Type 0 where
+-- every landing, and no other, after a throw: it answers the first catch's number and sp, or 3, or 5; and for every list of sweep
+-- calls, each of a kind or refused, none of that kind is refused, and the answers are as many as there are of: the landings due, in
+-- order, then finished again and again
+pub record EveryLanding (Of : Kind) (m : Machine) (t : Throw) (exception : ℕ) : Type 0 where
   pub throws : raisedBy m t ≡ Answer (outcome m t)
-  pub lands : (cs : List ResumeCall) → Admissible m (unwindingOf m t exception) cs →
-      RegularServed m (unwindingOf m t exception) cs
-      × (answers (numbers (m .arch)) cs ≡ firstOf (length (answers (numbers (m .arch)) cs)) (due m t))
+  pub lands : (cs : List ResumeCall) → Admissible Of (unwindingOf m t exception) cs →
+      Served Of (unwindingOf m t exception) cs
+      × (answers (archOf m) cs ≡ firstOf (length (answers (archOf m) cs)) (due m t))
 
--- demand 3: after every list of events from a fresh machine, then a throw or interrupt within the rules under a sound section
-abbrev pub Demand3 : Type 0
-Demand3 =
+-- that, after every list of events from a fresh machine, then a throw or interrupt within the rules under a sound section
+abbrev pub Demand3For : (Machine → Kind) → Type 0
+Demand3For Of =
     (m : Machine) → Fresh m → (es : List Event) (t : Throw) → throwAllowed (steps m es) t ≡ true → Sound (steps m es) t →
-    (exception : ℕ) → EveryLanding (steps m es) t exception
+    (exception : ℕ) → EveryLanding (Of (steps m es)) (steps m es) t exception
+
+-- demand 3: for regular calls
+abbrev pub Demand3 : Type 0
+Demand3 = Demand3For Regular

@@ -6,14 +6,13 @@ use Prim.Native.Nat.{ℕ, _+_, _-_, _*_, _%_, _^_}
 use lib.Dec.{eqb, ltb}
 use Rattle.failure.specs.Choice.{if_then_else_}
 use Rattle.failure.specs.Outcome.{Outcome, Refused, Answer}
-use Rattle.mem.specs.Memory.{Region}
-use Rattle.arch.specs.Arch.{Arch}
+use Rattle.arch.specs.Arch.{Arch, numbers}
 use Rattle.arch.specs.File.{fp, sp}
 use Rattle.lookup.specs.declared.Record.{Record}
 use Rattle.program.specs.Run.{Ran, run}
 use Rattle.frame.specs.Layout.{Pair, Layout, layout}
 use Rattle.frame.specs.ReadAs.{readAs, passes}
-use Rattle.model.specs.Machine.{Open, value}
+use Rattle.model.specs.Machine.{Open, Tables, tablesAlone, value}
 
 -- the state that a run gives, if it is not refused
 abbrev pub stateOf : Outcome Ran → Option Layout
@@ -22,10 +21,10 @@ stateOf (Answer ran) = some (layout (ran .state))
 
 -- base, units and pairs at a looked-up address: the state at that offset, or version 1's word, if it passes its rules: an interrupted
 -- frame's is a leaf, any other's kind 1 or 2
-unfoldable pub layoutAt : Arch → Region → Record → Bool → ℕ → Option Layout
-layoutAt a section r interrupted at =
-    if eqb (r .version) 2 then stateOf (run (section ∷ []) a (r .program) (r .limit) (at - r .start))
-    else if passes a (r .frame) interrupted then some (readAs a (r .frame))
+unfoldable pub layoutAt : Tables → Record → Bool → ℕ → Option Layout
+layoutAt ts r interrupted at =
+    if eqb (r .version) 2 then stateOf (run (tablesAlone ts) (numbers (ts .arch)) (r .program) (r .limit) (at - r .start))
+    else if passes (numbers (ts .arch)) (r .frame) interrupted then some (readAs (numbers (ts .arch)) (r .frame))
     else none
 
 -- a pair is one of those
@@ -72,5 +71,6 @@ fitsSome a f file none = false
 fitsSome a f file (some l) = fits a f file l
 
 -- the frame with these registers is described at a looked-up address
-unfoldable pub described : Arch → Region → Open → List ℕ → Bool → ℕ → Bool
-described a section f file interrupted at = fitsSome a f file (layoutAt a section (f .entry .function) interrupted at)
+unfoldable pub described : Tables → Open → List ℕ → Bool → ℕ → Bool
+described ts f file interrupted at =
+    fitsSome (numbers (ts .arch)) f file (layoutAt ts (f .entry .function) interrupted at)

@@ -1,5 +1,5 @@
 -- The events of the call machine, the rules of each, and what each does (document 01, "Events").
-use mathlib.Core.Bool.{Bool, true, false, not, _&&_, _||_}
+use mathlib.Core.Bool.{Bool, true, not, _&&_, _||_}
 use mathlib.Core.List.{List, [], _∷_}
 use mathlib.Core.Option.{Option, none, some}
 use Prim.Native.Nat.{ℕ, _-_, _^_}
@@ -10,9 +10,9 @@ use Rattle.failure.specs.Failure.{oneOf}
 use Rattle.arch.specs.Arch.{Arch, numbers}
 use Rattle.arch.specs.File.{sp, setSp, setPc, pcColumn}
 use Rattle.lookup.specs.Record.{holds}
-use Rattle.lookup.specs.Tables.{Entry, records, named}
+use Rattle.lookup.specs.Tables.{Entry, named}
 use Rattle.frame.specs.Layout.{Pair}
-use Rattle.model.specs.Machine.{Open, Machine, column, isRegister, value, address, inside, clear, written}
+use Rattle.model.specs.Machine.{Open, Tables, Machine, archOf, recordsOf, callerInterrupted, column, isRegister, value, address, inside, clear, written}
 use Rattle.model.specs.Described.{isSpilled, described}
 
 -- a record is named by its chunk and its index there; the numbers in an event are any natural numbers
@@ -51,44 +51,43 @@ abbrev pub returns : List Open → ℕ → Bool
 returns [] ret = eqb ret 0
 returns (f ∷ fs) ret = ltb 0 ret && holds (f .entry .function) (ret - 1)
 
--- a caller is described after this, its registers being the kept file, and its sp is below its own CFA
-abbrev pub callerDescribed : Machine → List Open → List ℕ → ℕ → Bool
-callerDescribed m [] kept ret = true
-callerDescribed m (f ∷ fs) kept ret =
-    described (numbers (m .arch)) (m .section) f kept false (ret - 1) && ltb (sp (numbers (m .arch)) kept) (f .cfa)
+-- a caller is described after this, its registers being the kept file of the frame that it opens, and its sp is below its own CFA
+abbrev pub callerDescribed : Tables → List Open → Open → ℕ → Bool
+callerDescribed ts [] new ret = true
+callerDescribed ts (f ∷ fs) new ret =
+    described ts f (new .kept) (callerInterrupted new) (ret - 1) && ltb (sp (numbers (ts .arch)) (new .kept)) (f .cfa)
 
 -- the rules of a call, one test a line: ret; CFA above 0; a pushed address lies in the stack; it meets no live slot; ret below 2^48
 -- (on x86-64 below 2^64, which its place in a record gives); the caller is described; at most 1,024 frames
-unfoldable pub callAllowed : Machine → ℕ → Bool
-callAllowed m ret =
+unfoldable pub callAllowed : Machine → Entry → ℕ → Bool
+callAllowed m e ret =
     returns (m .frames) ret
-    && ltb 0 (sp (numbers (m .arch)) (m .registers))
-    && (not (pushes (numbers (m .arch))) || inside (m .stack) (address (sp (numbers (m .arch)) (m .registers)) 1))
-    && (not (pushes (numbers (m .arch))) || clear (address (sp (numbers (m .arch)) (m .registers)) 1) (m .frames))
-    && ltb ret (2 ^ numbers (m .arch) .addressBits)
-    && callerDescribed m (m .frames) (keptBy (numbers (m .arch)) (m .registers) ret) ret
+    && ltb 0 (sp (archOf m) (m .registers))
+    && (not (pushes (archOf m)) || inside (m .stack) (address (sp (archOf m) (m .registers)) 1))
+    && (not (pushes (archOf m)) || clear (address (sp (archOf m) (m .registers)) 1) (m .frames))
+    && ltb ret (2 ^ archOf m .addressBits)
+    && callerDescribed (m .tables) (m .frames) (newFrame (archOf m) (m .registers) e ret) ret
     && ltb (length (m .frames)) 1024
 
 -- the machine after a call
 unfoldable pub entered : Machine → Entry → ℕ → Machine
 entered m e ret =
     record {
-      arch = m .arch;
-      section = m .section;
-      registers = calling (numbers (m .arch)) (m .registers) ret;
+      tables = m .tables;
+      registers = calling (archOf m) (m .registers) ret;
       stack =
-          if pushes (numbers (m .arch)) then written (m .stack) (address (sp (numbers (m .arch)) (m .registers)) 1) ret
+          if pushes (archOf m) then written (m .stack) (address (sp (archOf m) (m .registers)) 1) ret
           else m .stack;
-      frames = newFrame (numbers (m .arch)) (m .registers) e ret ∷ m .frames;
+      frames = newFrame (archOf m) (m .registers) e ret ∷ m .frames;
     }
 
 -- the rules of a spill, one test a line: a register's number; it equals the kept one; not sp; not already spilled; slot 1 to 65535; the
 -- place lies in the stack; it meets no live slot
 unfoldable pub spillAllowed : Machine → Open → ℕ → ℕ → Bool
 spillAllowed m f reg slot =
-    isRegister (numbers (m .arch)) reg
-    && eqb (value (numbers (m .arch)) (m .registers) reg) (value (numbers (m .arch)) (f .kept) reg)
-    && not (eqb reg (numbers (m .arch) .sp))
+    isRegister (archOf m) reg
+    && eqb (value (archOf m) (m .registers) reg) (value (archOf m) (f .kept) reg)
+    && not (eqb reg (archOf m .sp))
     && not (isSpilled (f .spilled) reg)
     && leb 1 slot
     && leb slot 65535
@@ -108,9 +107,9 @@ notSpNorPc a reg = not (eqb reg (a .sp)) && not (eqb (column a reg) pcColumn)
 -- bits
 unfoldable pub changeAllowed : Machine → Open → ℕ → ℕ → Bool
 changeAllowed m f reg v =
-    (not (oneOf reg (numbers (m .arch) .preserved)) || isSpilled (f .spilled) reg)
-    && notSpNorPc (numbers (m .arch)) reg
-    && isRegister (numbers (m .arch)) reg
+    (not (oneOf reg (archOf m .preserved)) || isSpilled (f .spilled) reg)
+    && notSpNorPc (archOf m) reg
+    && isRegister (archOf m) reg
     && ltb v (2 ^ 64)
 
 -- the rules of a reload: a spilled register other than 16
@@ -133,35 +132,35 @@ writeAllowed m x v = ltb v (2 ^ 64) && inside (m .stack) x && clear x (m .frames
 -- the machine with other registers
 abbrev pub withRegisters : Machine → List ℕ → Machine
 withRegisters m file =
-    record { arch = m .arch; section = m .section; registers = file; stack = m .stack; frames = m .frames }
+    record { tables = m .tables; registers = file; stack = m .stack; frames = m .frames }
 
 -- the machine with a number written to the stack
 abbrev pub withWritten : Machine → ℕ → ℕ → Machine
 withWritten m x v =
-    record { arch = m .arch; section = m .section; registers = m .registers; stack = written (m .stack) x v; frames = m .frames }
+    record { tables = m .tables; registers = m .registers; stack = written (m .stack) x v; frames = m .frames }
 
 -- the machine with other frames
 abbrev pub withFrames : Machine → List Open → Machine
-withFrames m fs = record { arch = m .arch; section = m .section; registers = m .registers; stack = m .stack; frames = fs }
+withFrames m fs = record { tables = m .tables; registers = m .registers; stack = m .stack; frames = fs }
 
 -- a call of a record of the section
 abbrev pub call : Machine → ℕ → Option Entry → Machine
 call m ret none = m
-call m ret (some e) = if callAllowed m ret then entered m e ret else m
+call m ret (some e) = if callAllowed m e ret then entered m e ret else m
 
 -- a spill of the innermost frame
 abbrev pub spill : Machine → ℕ → ℕ → List Open → Machine
 spill m reg slot [] = m
 spill m reg slot (f ∷ fs) =
     if spillAllowed m f reg slot
-    then withFrames (withWritten m (address (f .cfa) slot) (value (numbers (m .arch)) (m .registers) reg)) (spilling f reg slot ∷ fs)
+    then withFrames (withWritten m (address (f .cfa) slot) (value (archOf m) (m .registers) reg)) (spilling f reg slot ∷ fs)
     else m
 
 -- a change of the innermost frame
 abbrev pub change : Machine → ℕ → ℕ → List Open → Machine
 change m reg v [] = m
 change m reg v (f ∷ fs) =
-    if changeAllowed m f reg v then withRegisters m (set (m .registers) (column (numbers (m .arch)) reg) v) else m
+    if changeAllowed m f reg v then withRegisters m (set (m .registers) (column (archOf m) reg) v) else m
 
 -- a reload of the innermost frame
 abbrev pub reload : Machine → ℕ → List Open → Machine
@@ -169,14 +168,14 @@ reload m reg [] = m
 reload m reg (f ∷ fs) =
     if reloadAllowed f reg
     then withFrames
-    (withRegisters m (set (m .registers) (column (numbers (m .arch)) reg) (value (numbers (m .arch)) (f .kept) reg)))
+    (withRegisters m (set (m .registers) (column (archOf m) reg) (value (archOf m) (f .kept) reg)))
     (reloading f reg ∷ fs)
     else m
 
 -- a move of sp in the innermost frame: at most to its CFA
 abbrev pub move : Machine → ℕ → List Open → Machine
 move m to [] = m
-move m to (f ∷ fs) = if leb to (f .cfa) then withRegisters m (setSp (numbers (m .arch)) (m .registers) to) else m
+move m to (f ∷ fs) = if leb to (f .cfa) then withRegisters m (setSp (archOf m) (m .registers) to) else m
 
 -- a write to the stack
 abbrev pub write : Machine → ℕ → ℕ → Machine
@@ -184,7 +183,7 @@ write m x v = if writeAllowed m x v then withWritten m x v else m
 
 -- an event; one against the rules leaves the machine as it was
 abbrev pub step : Machine → Event → Machine
-step m (Call chunk index ret) = call m ret (named chunk index (records (m .section .bytes) (m .section .base) (m .arch)))
+step m (Call chunk index ret) = call m ret (named chunk index (recordsOf (m .tables)))
 step m (Spill reg slot) = spill m reg slot (m .frames)
 step m (Change reg v) = change m reg v (m .frames)
 step m (Reload reg) = reload m reg (m .frames)

@@ -4,13 +4,12 @@ use mathlib.Core.List.{List, [], _∷_, _++_, List·Memᴰ}
 use mathlib.Core.Logic.{_⊎_, _↔_, _≢_}
 use mathlib.Core.Path.{_≡_}
 use Prim.Native.Nat.{ℕ, _+_, _≤_, _<_}
-use Rattle.mem.specs.Memory.{Region}
-use Rattle.arch.specs.Arch.{Arch, numbers}
+use Rattle.arch.specs.Arch.{numbers}
 use Rattle.arch.specs.File as File
 use Rattle.rows.specs.Row as Row
 use Rattle.rows.specs.Row.{Found, None, Pad, cleanup}
 use Rattle.model.specs.Search.{Chosen, Stopped, Ended}
-use Rattle.model.specs.Machine.{Machine}
+use Rattle.model.specs.Machine.{Tables, Machine}
 use Rattle.model.specs.Throw.{Throw, Standing, framesAt, rowOf}
 use Rattle.model.specs.Expected.{LandingPad, padOf, outcome, due}
 
@@ -35,32 +34,32 @@ Numbered n [] k s = ⊥
 Numbered n (x ∷ xs) k s = ((k ≡ n) × (s ≡ x)) ⊎ Numbered (n + 1) xs k s
 
 -- frames with numbers, the first of which is n
-module _ (a : Arch) (section : Region) (n : ℕ) (ss : List Standing) where
+module _ (ts : Tables) (n : ℕ) (ss : List Standing) where
   -- the first row that is catch or terminate: every frame below its own is passed over
   pub record First (Kind : Found → Type 0) : Type 0 where
     pub number : ℕ
     pub frame : Standing
     pub numbered : Numbered n ss number frame
-    pub row : Kind (rowOf a section frame)
-    pub below : (k : ℕ) (s : Standing) → k < number → Numbered n ss k s → Passed (rowOf a section s)
+    pub row : Kind (rowOf ts frame)
+    pub below : (k : ℕ) (s : Standing) → k < number → Numbered n ss k s → Passed (rowOf ts s)
 
   -- no row is catch or terminate
   abbrev pub Neither : Type 0
-  Neither = (k : ℕ) (s : Standing) → Numbered n ss k s → Passed (rowOf a section s)
+  Neither = (k : ℕ) (s : Standing) → Numbered n ss k s → Passed (rowOf ts s)
 
   -- the first such row is a catch, with this number and with this sp at its frame's call
   pub record FirstCatch (number sp : ℕ) : Type 0 where
     pub first : First Catch
     pub isNumber : first .number ≡ number
-    pub isSp : File.sp a (first .frame .file) ≡ sp
+    pub isSp : File.sp (numbers (ts .arch)) (first .frame .file) ≡ sp
 
   -- a landing is that of frame number k, whose row has this action
   pub record PadAt (action k : ℕ) (l : LandingPad) : Type 0 where
     pub frame : Standing
     pub pad : ℕ
     pub numbered : Numbered n ss k frame
-    pub row : rowOf a section frame ≡ Pad pad action
-    pub is : l ≡ padOf a k frame pad
+    pub row : rowOf ts frame ≡ Pad pad action
+    pub is : l ≡ padOf (numbers (ts .arch)) k frame pad
 
   -- a landing is that of a frame with a cleanup row, its number below k
   pub record CleanupBelow (k : ℕ) (l : LandingPad) : Type 0 where
@@ -74,19 +73,19 @@ Rising k [] = Unit
 Rising k (l ∷ ls) = (k ≤ l .number) × Rising (l .number + 1) ls
 
 -- exactly the landings of the frames with a cleanup row below number k, innermost first, then that of the catch of frame number k
-pub record UpToCatch (a : Arch) (section : Region) (n : ℕ) (ss : List Standing) (k : ℕ) (ls : List LandingPad) : Type 0 where
+pub record UpToCatch (ts : Tables) (n : ℕ) (ss : List Standing) (k : ℕ) (ls : List LandingPad) : Type 0 where
   pub cleanups : List LandingPad
   pub last : LandingPad
   pub split : ls ≡ cleanups ++ last ∷ []
-  pub each : (l : LandingPad) → List·Memᴰ l cleanups ↔ CleanupBelow a section n ss k l
-  pub catch : PadAt a section n ss Row.catch k last
+  pub each : (l : LandingPad) → List·Memᴰ l cleanups ↔ CleanupBelow ts n ss k l
+  pub catch : PadAt ts n ss Row.catch k last
   pub rises : Rising n ls
 
 -- exactly: 3 where the first row that is catch or terminate is terminate; 5 where there is neither; otherwise that catch is chosen.
 -- No landing is due where 3 or 5 is answered; otherwise those up to the catch
 pub record Exactly (m : Machine) (t : Throw) : Type 0 where
-  pub stops : outcome m t ≡ Stopped ↔ First (numbers (m .arch)) (m .section) 0 (framesAt m t) Terminate
-  pub ends : outcome m t ≡ Ended ↔ Neither (numbers (m .arch)) (m .section) 0 (framesAt m t)
-  pub chooses : (k sp : ℕ) → outcome m t ≡ Chosen k sp ↔ FirstCatch (numbers (m .arch)) (m .section) 0 (framesAt m t) k sp
+  pub stops : outcome m t ≡ Stopped ↔ First (m .tables) 0 (framesAt m t) Terminate
+  pub ends : outcome m t ≡ Ended ↔ Neither (m .tables) 0 (framesAt m t)
+  pub chooses : (k sp : ℕ) → outcome m t ≡ Chosen k sp ↔ FirstCatch (m .tables) 0 (framesAt m t) k sp
   pub nothing : due m t ≡ [] ↔ (outcome m t ≡ Stopped) ⊎ (outcome m t ≡ Ended)
-  pub lands : (k sp : ℕ) → outcome m t ≡ Chosen k sp → UpToCatch (numbers (m .arch)) (m .section) 0 (framesAt m t) k (due m t)
+  pub lands : (k sp : ℕ) → outcome m t ≡ Chosen k sp → UpToCatch (m .tables) 0 (framesAt m t) k (due m t)

@@ -3,12 +3,11 @@ use mathlib.Core.List.{List, [], _∷_, map}
 use Prim.Native.Nat.{ℕ, zero, suc, _+_, _%_, _^_}
 use lib.Dec.{eqb}
 use Rattle.failure.specs.Choice.{if_then_else_}
-use Rattle.mem.specs.Memory.{Region}
 use Rattle.arch.specs.Arch.{Arch, numbers}
 use Rattle.arch.specs.File.{sp, pc}
 use Rattle.rows.specs.Row.{Found, None, Pad, cleanup, catch}
 use Rattle.model.specs.Search.{Searched, Chosen, Stopped, Ended}
-use Rattle.model.specs.Machine.{Machine, value}
+use Rattle.model.specs.Machine.{Tables, Machine, value}
 use Rattle.model.specs.Throw.{Throw, Standing, framesAt, recordOf, rowOf}
 
 -- a landing, as it is compared: the frame's number, and sp, pc and preserved registers at the pad
@@ -36,9 +35,9 @@ outcomeBy a n s (Pad pad action) rest =
 
 -- what a search over the frames from number n on answers: the first catch, by its number and sp; 3 for a terminate row before any
 -- catch; 5 where there is neither
-abbrev pub outcomeFrom : Arch → Region → ℕ → List Standing → Searched
-outcomeFrom a section n [] = Ended
-outcomeFrom a section n (s ∷ ss) = outcomeBy a n s (rowOf a section s) (outcomeFrom a section (n + 1) ss)
+abbrev pub outcomeFrom : Tables → ℕ → List Standing → Searched
+outcomeFrom ts n [] = Ended
+outcomeFrom ts n (s ∷ ss) = outcomeBy (numbers (ts .arch)) n s (rowOf ts s) (outcomeFrom ts (n + 1) ss)
 
 -- frame n by its row: a cleanup lands before the frames after it, a catch lands last, terminate ends the list
 abbrev pub padsBy : Arch → ℕ → Standing → Found → List LandingPad → List LandingPad
@@ -49,9 +48,9 @@ padsBy a n s (Pad pad action) rest =
     else []
 
 -- the landings of the frames from number n on, up to the first catch: those with a cleanup row, innermost first, then the catch
-abbrev pub padsFrom : Arch → Region → ℕ → List Standing → List LandingPad
-padsFrom a section n [] = []
-padsFrom a section n (s ∷ ss) = padsBy a n s (rowOf a section s) (padsFrom a section (n + 1) ss)
+abbrev pub padsFrom : Tables → ℕ → List Standing → List LandingPad
+padsFrom ts n [] = []
+padsFrom ts n (s ∷ ss) = padsBy (numbers (ts .arch)) n s (rowOf ts s) (padsFrom ts (n + 1) ss)
 
 -- landings are due only where a catch was chosen
 abbrev pub dueBy : Searched → List LandingPad → List LandingPad
@@ -61,11 +60,11 @@ dueBy Ended ls = []
 
 -- what the throw must answer
 unfoldable pub outcome : Machine → Throw → Searched
-outcome m t = outcomeFrom (numbers (m .arch)) (m .section) 0 (framesAt m t)
+outcome m t = outcomeFrom (m .tables) 0 (framesAt m t)
 
 -- the landings that are due after it
 unfoldable pub due : Machine → Throw → List LandingPad
-due m t = dueBy (outcome m t) (padsFrom (numbers (m .arch)) (m .section) 0 (framesAt m t))
+due m t = dueBy (outcome m t) (padsFrom (m .tables) 0 (framesAt m t))
 
 -- an answer of a sweep call, as it is compared
 pub data Compared : Type 0 where

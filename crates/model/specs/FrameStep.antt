@@ -7,7 +7,7 @@ use lib.Dec.{eqb, ltb}
 use Rattle.failure.specs.Choice.{if_then_else_}
 use Rattle.failure.specs.Outcome.{Outcome, Refused, Answer, _>>=_}
 use Rattle.failure.specs.Failure.{StackNotAdvancing, TooManyFrames}
-use Rattle.mem.specs.Memory.{Region, Memory}
+use Rattle.mem.specs.Memory.{Region, Memory, Lent}
 use Rattle.arch.specs.Arch.{Arch, numbers}
 use Rattle.arch.specs.File.{sp, pc}
 use Rattle.lookup.specs.declared.Record.{Record}
@@ -53,26 +53,41 @@ callerFile a m interrupted r at file =
 unfoldable pub notAdvancing : Arch → ℕ → List ℕ → List ℕ → Bool
 notAdvancing a number file next = ltb (sp a next) (sp a file) || (not (eqb number 0) && eqb (sp a next) (sp a file))
 
--- the caller as a frame; it is not interrupted
-abbrev pub callerOf : Frame → List ℕ → Frame
-callerOf f next = record { number = f .number + 1; interrupted = false; file = next }
+-- the caller of a frame is interrupted: never; only the first frame can be
+unfoldable pub nextInterrupted : Lent → Frame → Bool
+nextInterrupted l f = false
+
+-- the caller as a frame
+abbrev pub callerOf : Lent → Frame → List ℕ → Frame
+callerOf l f next = record { number = f .number + 1; interrupted = nextInterrupted l f; file = next }
+
+-- what lookup found, by its record
+abbrev pub functionOf : Option Found → Option Record
+functionOf none = none
+functionOf (some x) = some (x .function)
+
+-- what describes the frame that is looked up at an address: a record of the section
+unfoldable pub find : Lent → ℕ → ℕ → Outcome (Option Record)
+find l arch at = do
+  found ← lookup (sectionOf (l .regions) .bytes) (sectionOf (l .regions) .base) at arch
+  Answer (functionOf found)
 
 -- with the record of the frame: caller registers, then 20
-unfoldable pub past : Arch → Memory → Frame → Record → Outcome Step
-past a m f r = do
-  next ← callerFile a m (f .interrupted) r (lookedUp (f .interrupted) (pc (f .file))) (f .file)
-  if notAdvancing a (f .number) (f .file) next then Refused StackNotAdvancing else Answer (Past r (callerOf f next))
+unfoldable pub past : Arch → Lent → Frame → Record → Outcome Step
+past a l f r = do
+  next ← callerFile a (l .regions) (f .interrupted) r (lookedUp (f .interrupted) (pc (f .file))) (f .file)
+  if notAdvancing a (f .number) (f .file) next then Refused StackNotAdvancing else Answer (Past r (callerOf l f next))
 
--- what lookup found: none ends the walk
-abbrev pub pastFound : Arch → Memory → Frame → Option Found → Outcome Step
-pastFound a m f none = Answer End
-pastFound a m f (some x) = past a m f (x .function)
+-- what was found: none ends the walk
+abbrev pub pastFound : Arch → Lent → Frame → Option Record → Outcome Step
+pastFound a l f none = Answer End
+pastFound a l f (some r) = past a l f r
 
--- in order: pc 0 ends; 1,024 frames given, 29; lookup in the section; then the rest
-unfoldable pub frameStep : ℕ → Memory → Frame → Outcome Step
-frameStep arch m f =
+-- in order: pc 0 ends; 1,024 frames given, 29; lookup; then the rest
+unfoldable pub frameStep : ℕ → Lent → Frame → Outcome Step
+frameStep arch l f =
     if eqb (pc (f .file)) 0 then Answer End
     else if not (ltb (f .number) maxFrames) then Refused TooManyFrames
     else (do
-      found ← lookup (sectionOf m .bytes) (sectionOf m .base) (lookedUp (f .interrupted) (pc (f .file))) arch
-      pastFound (numbers arch) m f found)
+      found ← find l arch (lookedUp (f .interrupted) (pc (f .file)))
+      pastFound (numbers arch) l f found)

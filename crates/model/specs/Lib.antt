@@ -12,4 +12,6 @@ pub mod Expected
 pub mod Exactly
 pub mod OtherStack
 pub mod Demand
+pub mod LiveStack
+pub mod Between
 pub mod Call

@@ -1,5 +1,5 @@
 -- The call machine (document 01, "Walk, throw and call machine"): an architecture, a section, registers, a stack and open frames.
-use mathlib.Core.Bool.{Bool, true, not, _&&_}
+use mathlib.Core.Bool.{Bool, true, false, not, _&&_}
 use mathlib.Core.List.{List, [], _∷_, _++_}
 use mathlib.Core.Path.{_≡_}
 use Prim.Native.Nat.{ℕ, zero, suc, _+_, _-_, _*_, _/_, _%_, _^_, _<_}
@@ -9,10 +9,10 @@ use Rattle.failure.specs.Outcome.{Outcome, Refused, Answer}
 use Rattle.mem.specs.Memory.{Region, Memory, Lent, Bytes, size}
 use Rattle.mem.specs.Opening.{opens}
 use Rattle.mem.specs.Place.{holds}
-use Rattle.arch.specs.Arch.{Arch, isKnown}
+use Rattle.arch.specs.Arch.{Arch, numbers, isKnown}
 use Rattle.arch.specs.File as File
 use Rattle.arch.specs.File.{columnOf}
-use Rattle.lookup.specs.Tables.{Entry}
+use Rattle.lookup.specs.Tables.{Entry, records}
 use Rattle.frame.specs.Layout.{Pair}
 
 -- an open frame: its record (one of the section's), its kept file, its CFA, and its spilled pairs
@@ -22,22 +22,46 @@ pub record Open : Type 0 where
   pub cfa : ℕ
   pub spilled : List Pair
 
--- a call machine
-pub record Machine : Type 0 where
+-- the caller of an open frame is interrupted: never, since each frame is opened by a call
+unfoldable pub callerInterrupted : Open → Bool
+callerInterrupted f = false
+
+-- what no event changes: the architecture and the section
+pub record Tables : Type 0 where
   pub arch : ℕ
   pub section : Region
+
+-- the records of the section, in its order
+abbrev pub recordsOf : Tables → List Entry
+recordsOf ts = records (ts .section .bytes) (ts .section .base) (ts .arch)
+
+-- a call machine
+pub record Machine : Type 0 where
+  pub tables : Tables
   pub registers : List ℕ
   pub stack : Region
   -- the open frames, the innermost first
   pub frames : List Open
 
--- what the machine lends, as memory: the section, then the stack
-abbrev pub memory : Machine → Memory
-memory m = m .section ∷ m .stack ∷ []
+-- the numbers of its architecture
+abbrev pub archOf : Machine → Arch
+archOf m = numbers (m .tables .arch)
 
--- the same as it is handed to a call
+-- memory with a stack: the section, then the stack
+abbrev pub memoryWith : Tables → Region → Memory
+memoryWith ts stack = ts .section ∷ stack ∷ []
+
+-- memory as the machine reads its tables: without the stack
+abbrev pub tablesAlone : Tables → Memory
+tablesAlone ts = ts .section ∷ []
+
+-- what a call is lent with a stack
+abbrev pub lending : Tables → Region → Lent
+lending ts stack = record { regions = memoryWith ts stack }
+
+-- what the machine lends
 abbrev pub lentBy : Machine → Lent
-lentBy m = record { regions = memory m }
+lentBy m = lending (m .tables) (m .stack)
 
 -- fresh: no frame, any registers, any stack of an accepted opening, on architecture 1 or 2
 pub record Fresh (m : Machine) : Type 0 where
@@ -47,8 +71,8 @@ pub record Fresh (m : Machine) : Type 0 where
   pub values : (k : ℕ) → getD (m .registers) k 0 < 2 ^ 64
   pub accepted : opens (lentBy m) ≡ true
   -- what is lent is bytes
-  pub bytes : Bytes (memory m)
-  pub known : isKnown (m .arch) ≡ true
+  pub bytes : Bytes (lentBy m .regions)
+  pub known : isKnown (m .tables .arch) ≡ true
 
 -- the column, or 41, which no file has
 abbrev pub orNone : Outcome ℕ → ℕ

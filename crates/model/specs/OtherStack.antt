@@ -13,12 +13,14 @@ pub record SameWord (stack other : Region) (x : ℕ) : Type 0 where
   pub within : inside other x ≡ true
   pub same : word (other .bytes) (x - other .base) 8 ≡ word (stack .bytes) (x - stack .base) 8
 
--- each live slot of each open frame is the same in another stack
+-- each live slot of a frame is the same in another stack
+abbrev pub SameSlots : Region → Region → Open → Type 0
+SameSlots stack other f = (p : Pair) → List·Memᴰ p (f .spilled) → SameWord stack other (address (f .cfa) (p .slot))
+
+-- and so in each open frame
 abbrev pub SameLive : Region → Region → List Open → Type 0
-SameLive stack other fs =
-    (f : Open) → List·Memᴰ f fs → (p : Pair) → List·Memᴰ p (f .spilled) → SameWord stack other (address (f .cfa) (p .slot))
+SameLive stack other fs = (f : Open) → List·Memᴰ f fs → SameSlots stack other f
 
 -- the machine with another stack
 abbrev pub withStack : Machine → Region → Machine
-withStack m other =
-    record { arch = m .arch; section = m .section; registers = m .registers; stack = other; frames = m .frames }
+withStack m other = record { tables = m .tables; registers = m .registers; stack = other; frames = m .frames }

@@ -4,7 +4,7 @@ use lib.Dec.{eqb}
 use Rattle.failure.specs.Choice.{if_then_else_}
 use Rattle.failure.specs.Outcome.{Outcome, Refused, Answer, _>>=_}
 use Rattle.failure.specs.Failure.{TooManyFrames}
-use Rattle.mem.specs.Memory.{Memory}
+use Rattle.mem.specs.Memory.{Lent}
 use Rattle.arch.specs.Arch.{Arch, numbers}
 use Rattle.arch.specs.File.{sp, pc}
 use Rattle.rows.specs.Row.{Found, None, Pad}
@@ -39,17 +39,17 @@ byCode a f code rest =
     else rest
 
 -- a frame after its step: its row is found, and its code followed
-abbrev pub searchAt : ℕ → Memory → Frame → (Frame → Outcome Searched) → Step → Outcome Searched
-searchAt arch m f rest End = Answer Ended
-searchAt arch m f rest (Past r next) = do
-  row ← rowOf (numbers arch) m (f .interrupted) r (pc (f .file))
+abbrev pub searchAt : ℕ → Lent → Frame → (Frame → Outcome Searched) → Step → Outcome Searched
+searchAt arch l f rest End = Answer Ended
+searchAt arch l f rest (Past r next) = do
+  row ← rowOf (numbers arch) (l .regions) (f .interrupted) r (pc (f .file))
   byCode (numbers arch) f (searchCode row) (rest next)
 
 -- the search from a frame on; the first number is how many frames at most. With 1,025 or more of them the line for 0 is never met
-abbrev pub searchFrom : ℕ → ℕ → Memory → Frame → Outcome Searched
-searchFrom zero arch m f = Refused TooManyFrames
-searchFrom (suc n) arch m f = frameStep arch m f >>= searchAt arch m f (λ next. searchFrom n arch m next)
+abbrev pub searchFrom : ℕ → ℕ → Lent → Frame → Outcome Searched
+searchFrom zero arch l f = Refused TooManyFrames
+searchFrom (suc n) arch l f = frameStep arch l f >>= searchAt arch l f (λ next. searchFrom n arch l next)
 
 -- the search from a frame on: after 1,024 frames the step itself ends or refuses
-unfoldable pub search : ℕ → Memory → Frame → Outcome Searched
-search arch m f = searchFrom 1025 arch m f
+unfoldable pub search : ℕ → Lent → Frame → Outcome Searched
+search arch l f = searchFrom 1025 arch l f

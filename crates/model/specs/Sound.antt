@@ -7,9 +7,9 @@ use lib.Dec.{eqb, ltb}
 use lib.ListN.{length}
 use Rattle.failure.specs.Choice.{if_then_else_}
 use Rattle.failure.specs.Outcome.{Outcome, Refused, Answer}
-use Rattle.mem.specs.Memory.{Region, Memory}
+use Rattle.mem.specs.Memory.{Memory}
 use Rattle.mem.specs.Word.{load}
-use Rattle.arch.specs.Arch.{Arch, numbers}
+use Rattle.arch.specs.Arch.{numbers}
 use Rattle.arch.specs.File.{pc}
 use Rattle.lookup.specs.declared.Record.{Record}
 use Rattle.lookup.specs.Sound.{sound}
@@ -17,7 +17,7 @@ use Rattle.program.specs.Run.{Ran, run}
 use Rattle.rows.specs.Row.{Found}
 use Rattle.rows.specs.Handler.{Entry}
 use Rattle.personality.specs.Reason as Reason
-use Rattle.model.specs.Machine.{Machine}
+use Rattle.model.specs.Machine.{Tables, Machine, tablesAlone}
 use Rattle.model.specs.Throw.{Throw, Standing, framesAt, recordOf, rows1}
 
 -- offsets rise strictly after a row
@@ -51,24 +51,28 @@ notRefused (Answer row) = true
 
 -- a frame's table, if it has one: version 1's is whole and rises strictly; the program before version 2's reads to END at offset
 -- 2^32 - 1
-unfoldable pub goodTable : Arch → Region → Record → Bool
-goodTable a section r =
+unfoldable pub goodTable : Tables → Record → Bool
+goodTable ts r =
     if eqb (r .handlers) 0 then true
-    else if eqb (r .version) 2 then readsToEnd (run (section ∷ []) a (r .program) (r .limit) (2 ^ 32 - 1))
-    else wholeTable (section ∷ []) (r .handlers)
+    else if eqb (r .version) 2 then readsToEnd (run (tablesAlone ts) (numbers (ts .arch)) (r .program) (r .limit) (2 ^ 32 - 1))
+    else wholeTable (tablesAlone ts) (r .handlers)
 
 -- a frame's table is good, and its row is not refused
-unfoldable pub goodFrame : Arch → Region → Standing → Bool
-goodFrame a section s =
-    goodTable a section (recordOf s)
-    && notRefused (Reason.rowOf a (section ∷ []) (s .interrupted) (recordOf s) (pc (s .file)))
+unfoldable pub goodFrame : Tables → Standing → Bool
+goodFrame ts s =
+    goodTable ts (recordOf s)
+    && notRefused (Reason.rowOf (numbers (ts .arch)) (tablesAlone ts) (s .interrupted) (recordOf s) (pc (s .file)))
 
 -- that holds of each frame
-abbrev pub goodFrames : Arch → Region → List Standing → Bool
-goodFrames a section [] = true
-goodFrames a section (s ∷ ss) = goodFrame a section s && goodFrames a section ss
+abbrev pub goodFrames : Tables → List Standing → Bool
+goodFrames ts [] = true
+goodFrames ts (s ∷ ss) = goodFrame ts s && goodFrames ts ss
+
+-- the tables of the section are sound
+abbrev pub SoundTables : Tables → Type 0
+SoundTables ts = sound (ts .section .bytes) (ts .section .base) (ts .arch)
 
 -- the section is sound for a throw
 pub record Sound (m : Machine) (t : Throw) : Type 0 where
-  pub tables : sound (m .section .bytes) (m .section .base) (m .arch)
-  pub frames : goodFrames (numbers (m .arch)) (m .section) (framesAt m t) ≡ true
+  pub tables : SoundTables (m .tables)
+  pub frames : goodFrames (m .tables) (framesAt m t) ≡ true

@@ -5,7 +5,7 @@ use Prim.Native.Nat.{ℕ, zero, suc, _+_, _-_, _^_}
 use lib.Dec.{eqb, ltb}
 use Rattle.failure.specs.Choice.{if_then_else_}
 use Rattle.failure.specs.Outcome.{Outcome, Refused, Answer}
-use Rattle.mem.specs.Memory.{Region, Memory}
+use Rattle.mem.specs.Memory.{Memory}
 use Rattle.mem.specs.Word.{load}
 use Rattle.arch.specs.Arch.{Arch, numbers}
 use Rattle.arch.specs.File.{pc, setPc}
@@ -15,7 +15,7 @@ use Rattle.program.specs.Run.{run}
 use Rattle.rows.specs.Row.{Found, None}
 use Rattle.rows.specs.Handler.{Entry, entryAt}
 use Rattle.rows.specs.Prefix.{rowsOf, rowAt}
-use Rattle.model.specs.Machine.{Open, Machine}
+use Rattle.model.specs.Machine.{Open, Tables, Machine, callerInterrupted, tablesAlone}
 use Rattle.model.specs.Described.{described}
 
 -- a Throw (pc) or an Interrupt (pc)
@@ -37,7 +37,7 @@ throwable m t [] = false
 throwable m t (f ∷ fs) =
     ltb 0 (t .pc)
     && holds (f .entry .function) (lookedAt t)
-    && described (numbers (m .arch)) (m .section) f (thrown m t) (t .interrupted) (lookedAt t)
+    && described (m .tables) f (thrown m t) (t .interrupted) (lookedAt t)
 
 -- a throw or interrupt is within the rules
 unfoldable pub throwAllowed : Machine → Throw → Bool
@@ -49,10 +49,11 @@ pub record Standing : Type 0 where
   pub file : List ℕ
   pub interrupted : Bool
 
--- frames with their registers at their calls: the first one's are given, every other's are the kept file of the call that it made
+-- frames with their registers at their calls, and whether each is interrupted: the first one's are given, every other's are the kept
+-- file of the call that it made
 abbrev pub standing : Bool → List ℕ → List Open → List Standing
 standing interrupted file [] = []
-standing interrupted file (f ∷ fs) = record { frame = f; file = file; interrupted = interrupted } ∷ standing false (f .kept) fs
+standing interrupted file (f ∷ fs) = record { frame = f; file = file; interrupted = interrupted } ∷ standing (callerInterrupted f) (f .kept) fs
 
 -- the machine's frames at a throw, counted from 0, the innermost
 abbrev pub framesAt : Machine → Throw → List Standing
@@ -81,11 +82,11 @@ unfoldable pub rows2 : Arch → Memory → Record → List Entry
 rows2 a m r = readable (run m a (r .program) (r .limit) (2 ^ 32 - 1)) (λ ran. rowsOf m (ran .after) (r .limit))
 
 -- the rows of a record's table, in the section
-unfoldable pub rowsIn : Arch → Region → Record → List Entry
-rowsIn a section r = if eqb (r .version) 2 then rows2 a (section ∷ []) r else rows1 (section ∷ []) (r .handlers)
+unfoldable pub rowsIn : Tables → Record → List Entry
+rowsIn ts r = if eqb (r .version) 2 then rows2 (numbers (ts .arch)) (tablesAlone ts) r else rows1 (tablesAlone ts) (r .handlers)
 
 -- a frame's row: that at its pc minus its record's start; none if interrupted or without a table
-unfoldable pub rowOf : Arch → Region → Standing → Found
-rowOf a section s =
+unfoldable pub rowOf : Tables → Standing → Found
+rowOf ts s =
     if s .interrupted || eqb (recordOf s .handlers) 0 then None
-    else rowAt (pc (s .file) - recordOf s .start) (rowsIn a section (recordOf s))
+    else rowAt (pc (s .file) - recordOf s .start) (rowsIn ts (recordOf s))

@@ -20,7 +20,7 @@ opened l arch o = if opens l then (if isKnown arch then o else Refused BadOpenin
 
 -- the frame step in what is lent (document 01: walk)
 unfoldable pub nextFrame : Lent → ℕ → Frame → Outcome Step
-nextFrame l arch f = opened l arch (frameStep arch (l .regions) f)
+nextFrame l arch f = opened l arch (frameStep arch l f)
 
 -- frame 0: the registers with the pc of the throw
 abbrev pub frame0 : List ℕ → ℕ → Bool → Frame
@@ -28,7 +28,7 @@ frame0 file at interrupted = record { number = 0; interrupted = interrupted; fil
 
 -- `raise`: what the search from frame 0 on comes to
 unfoldable pub raise : Lent → ℕ → List ℕ → ℕ → Bool → Outcome Searched
-raise l arch file at interrupted = opened l arch (search arch (l .regions) (frame0 file at interrupted))
+raise l arch file at interrupted = opened l arch (search arch l (frame0 file at interrupted))
 
 -- an unwinding at a frame, with nothing chosen
 abbrev pub unchosen : Frame → ℕ → Unwinding
@@ -74,7 +74,7 @@ choiceOf u = record { number = u .«chosen_number»; sp = u .«chosen_sp» }
 -- `resume`: finished where nothing is chosen or the chosen frame has landed, else the next landing
 unfoldable pub resume : Lent → ℕ → Unwinding → Outcome Cleaned
 resume l arch u =
-    opened l arch (if u .chosen then clean arch (l .regions) (u .exception) (choiceOf u) (frameOf u) else Answer Finished)
+    opened l arch (if u .chosen then clean arch l (u .exception) (choiceOf u) (frameOf u) else Answer Finished)
 
 -- an unwinding that goes on from a frame
 abbrev pub goingOn : Unwinding → Frame → Unwinding

@@ -1,5 +1,6 @@
 -- The scenarios hold: demand 3 is not vacuous. Assumes nothing.
-use mathlib.Core.Bool.{true}
+use mathlib.Core.Bool.{true, false}
+use mathlib.Core.List.{[], _∷_}
 use mathlib.Core.Path.{_≡_, refl}
 use Rattle.mem.specs.Opening.{bounded, apart, opens}
 use Rattle.mem.specs.Place as Place
@@ -44,7 +45,9 @@ use Rattle.model.specs.Sound.{wholeTable, goodTable, goodFrame}
 use Rattle.model.specs.Expected.{padOf, outcome, due}
 use Rattle.model.specs.Demand.{answerOf, current, raisedBy, unwindingOf}
 use Rattle.runs.specs.Scenario.{Holds, labelsRight}
+use Rattle.runs.specs.Living.{Lives}
 use Rattle.runs.proofs.Runs.{fresh-tested, holds-reported}
+use Rattle.runs.proofs.Living.{lives-reported}
 use Rattle.runs.specs.Aarch64 as Aarch64
 use Rattle.runs.specs.X86 as X86
 
@@ -82,6 +85,27 @@ unfolding bounded apart opens Place.holds bytesAt load byteAt ulebAt numbers isK
 leaf-scenarios = (
   holds-reported Aarch64.inLeaf aarch64-fresh refl (λ exception. refl),
   holds-reported X86.overUnlinked x86-fresh refl (λ exception. refl),
+)
+
+-- the first of each lives on. At the first call nothing of a frame is overwritten; then the frames passed are, those that landed included:
+-- `plain` and `framed`, `old`, and the second `outer`
+pub living-scenarios :
+    Lives Aarch64.caught (
+    (true ∷ true ∷ true ∷ true ∷ true ∷ []) ∷
+    (false ∷ false ∷ true ∷ true ∷ true ∷ []) ∷
+    (false ∷ false ∷ false ∷ true ∷ true ∷ []) ∷
+    (false ∷ false ∷ false ∷ false ∷ true ∷ []) ∷
+    (false ∷ false ∷ false ∷ false ∷ true ∷ []) ∷ [])
+    × Lives X86.caught (
+    (true ∷ true ∷ true ∷ true ∷ true ∷ []) ∷
+    (false ∷ false ∷ true ∷ true ∷ true ∷ []) ∷
+    (false ∷ false ∷ false ∷ true ∷ true ∷ []) ∷
+    (false ∷ false ∷ false ∷ false ∷ true ∷ []) ∷
+    (false ∷ false ∷ false ∷ false ∷ true ∷ []) ∷ [])
+unfolding bounded apart opens Place.holds bytesAt load byteAt ulebAt numbers isKnown columnOf get set overfull entry save formOf decode frameRegs follow act run savedPairs fpPair raSlot badFp loadSlot applyAt apply pastTable leafCfa fpCfa spCfa frameCfa returnAddress setReturn setFrame setCaller stepAt Step.step readAs passes valid checked entryAt leftBreaks rightBreaks judged handler nextDelta matched handler2 rowsOf word stride chunkAt faulty headAt startAt endAt addressOf handlersOf recordAt recordAt2 recordOf holds badRecord chunksFrom chunks records halve leftMeets rightMeets settle Lookup.search inRange searchIn lookup soundTest rowless rowAfter installed searchedCode Reason.rowOf callerFile notAdvancing past frameStep search installPad clean opened raise resume column isRegister value inside meet put written layoutAt samePairs goodFp fits described pushes calling keptBy newFrame notSpNorPc callAllowed entered spillAllowed changeAllowed reloadAllowed writeAllowed throwAllowed rows1 rows2 rowsIn rowOf wholeTable goodTable goodFrame padOf outcome due answerOf current raisedBy unwindingOf
+living-scenarios = (
+  lives-reported Aarch64.caught _ (aarch64-scenarios .0) (λ exception. refl),
+  lives-reported X86.caught _ (x86-scenarios .0) (λ exception. refl),
 )
 
 -- the events of the first scenario of each are within the rules or against them, as their labels say

@@ -1,0 +1,46 @@
+-- Which sweep calls are usable: regular ones, and every call over a stack of the same place in which the live slots of the frames not
+-- yet passed are as they were. Assumes nothing.
+use mathlib.Core.Path.{_≡_, refl, _∙_}
+use native.Mathlib.Omega.{arith}
+use lib.ListN.{drop}
+use Rattle.mem.specs.Memory.{Region, size}
+use Rattle.mem.specs.Opening.{opens}
+use Rattle.model.specs.declared.Unwinding.{Unwinding}
+use Rattle.model.specs.Machine.{Machine, lentBy, archOf}
+use Rattle.model.specs.OtherStack.{SameLive, withStack}
+use Rattle.model.specs.Demand.{regular}
+use Rattle.model.specs.LiveStack.{Usable}
+use Rattle.model.proofs.Chain.{Inv}
+use Rattle.model.proofs.Live.{live-in, from-number}
+
+-- each live slot is the same in the machine's own stack
+pub own-live : (m : Machine) → Inv m → SameLive (m .stack) (m .stack) (m .frames)
+own-live m i f j p k = record { within = live-in (archOf m) (m .stack) (m .frames) (i .live) f j p k .within; same = refl }
+
+-- a regular call is usable
+pub regular-usable : (m : Machine) → Inv m → (u : Unwinding) → Usable m u (regular m u)
+regular-usable m i u =
+    record {
+      stack = m .stack;
+      is = refl;
+      accepted = i .accepted;
+      same = λ e k f least most at. own-live m i f (from-number 0 (m .frames) k f (omega arith) at);
+    }
+
+-- whether a stack opens depends on its place alone
+same-place : (m : Machine) (other : Region) → other .base ≡ m .stack .base → size other ≡ size (m .stack) →
+    opens (lentBy (withStack m other)) ≡ opens (lentBy m)
+unfolding opens
+same-place m other base long = rw (base, long)
+
+-- a call is usable over a stack of the same base and length in which the live slots of the frames not yet passed are the same
+pub placed-usable :
+    (m : Machine) → Inv m → (u : Unwinding) (other : Region) → other .base ≡ m .stack .base → size other ≡ size (m .stack) →
+    SameLive (m .stack) other (drop (u .number) (m .frames)) → Usable m u (regular (withStack m other) u)
+placed-usable m i u other base long same =
+    record {
+      stack = other;
+      is = refl;
+      accepted = same-place m other base long ∙ i .accepted;
+      same = λ e k f least most at. same f (from-number (u .number) (m .frames) k f least at);
+    }

@@ -49,16 +49,16 @@ module _ (l : Lent) (arch : ℕ) (file : List ℕ) (at : ℕ) (interrupted : Boo
   raised-28 c =
       ap (λ (f : Frame). raisedBy f exception (Refused BadOpening)) begins
       ∙ ap (raisedBy (frame0 file at interrupted) exception)
-      (closed-28 l arch (search arch (l .regions) (frame0 file at interrupted)) c)
+      (closed-28 l arch (search arch l (frame0 file at interrupted)) c)
 
   -- what the search comes to
   pub raised-on : (opens l && isKnown arch) ≡ true → (o : Outcome Searched) →
-      o ≡ search arch (l .regions) (frameAt 0 interrupted regs) →
+      o ≡ search arch l (frameAt 0 interrupted regs) →
       raisedBy (frameAt 0 interrupted regs) exception o
       ≡ raisedBy (frame0 file at interrupted) exception (raise l arch file at interrupted)
   unfolding raise
   raised-on c o p =
       ap (λ (f : Frame). raisedBy f exception o) begins
       ∙ ap (raisedBy (frame0 file at interrupted) exception)
-      (p ∙ ap (λ (f : Frame). search arch (l .regions) f) begins
-      ∙ open-passes l arch (search arch (l .regions) (frame0 file at interrupted)) c)
+      (p ∙ ap (λ (f : Frame). search arch l f) begins
+      ∙ open-passes l arch (search arch l (frame0 file at interrupted)) c)

@@ -11,9 +11,11 @@ use Rattle.model.specs.Search.{Searched, Chosen, Stopped, Ended}
 use Rattle.model.specs.Cleanup.{Cleaned, Install, Fatal, Finished}
 use Rattle.model.specs.Unwinding.{frame0, raise, raised, resume}
 use Rattle.model.specs.Expected.{Compared}
-use Rattle.model.specs.Call.{after, Gives, Promised}
-use Rattle.model.proofs.Promised.{promised}
-use Rattle.unwind.specs.Answers.{searched, raiseOf, raisedBy, resumedBy, cleaned, callNumber, unwoundBy}
+use Rattle.model.specs.Machine.{archOf}
+use Rattle.model.specs.Demand.{answerOf}
+use Rattle.model.specs.Call.{after, Gives, machineAt, Promised, GivesNext}
+use Rattle.model.proofs.Promised.{promised, gives-next}
+use Rattle.unwind.specs.Answers.{searched, raiseOf, raisedBy, resumedBy, cleaned, callWith, callNumber, unwoundBy}
 use Rattle.unwind.specs.declared.Raised.{Raised}
 use Rattle.unwind.specs.declared.Resumed.{Resumed}
 use Rattle.unwind.specs.declared.Unwound.{Unwound}
@@ -31,6 +33,13 @@ told-call a u (Refused n) g e = e
 told-call a u (Answer (Install number file next)) g e = e
 told-call a u (Answer Fatal) g e = e
 told-call a u (Answer Finished) g e = e
+
+-- demand 3, of what a sweep call hands back
+pub told-next : (l : Lent) (arch : ℕ) (u : Unwinding) (r : Resumed) → r ≡ resumedBy u (resume l arch u) →
+    (r ≡ resumedBy u (resume l arch u)) × GivesNext (callWith l arch u) (cleaned r)
+unfolding answerOf
+told-next l arch u r is =
+    (is, λ a. rw is (told-call (archOf (machineAt (a .thrown))) u (resume l arch u) _ (gives-next (callWith l arch u) a)))
 
 -- the throw and the call, put together
 pub together : (n : ℕ) (l : Lent) (arch : ℕ) (file : List ℕ) (pc : ℕ) (interrupted : Bool) (exception : ℕ) (x : Raised) →

@@ -12,7 +12,7 @@ use Rattle.failure.specs.Choice.{if_then_else_}
 use Rattle.failure.specs.Outcome as Outcome
 use Rattle.failure.specs.Outcome.{Outcome, Answer, _>>=_}
 use Rattle.failure.specs.Failure.{StackNotAdvancing, TooManyFrames}
-use Rattle.mem.specs.Memory.{Memory}
+use Rattle.mem.specs.Memory.{Memory, Lent}
 use Rattle.arch.specs.Arch.{Arch, numbers}
 use Rattle.arch.specs.File.{sp, pc}
 use Rattle.arch.specs.Answers.{InPlace}
@@ -20,14 +20,14 @@ use Rattle.arch.specs.declared.Status.{Status}
 use Rattle.arch.specs.declared.Status.the-variants as status
 use Rattle.lookup.specs.declared.Record.{Record}
 use Rattle.lookup.specs.declared.Lookup.{Lookup}
-use Rattle.lookup.specs.Lookup.{Found, lookup, looked}
+use Rattle.lookup.specs.Lookup.{lookup, looked}
 use Rattle.program.specs.Run.{Ran, run}
 use Rattle.frame.specs.Layout.{layout}
 use Rattle.frame.specs.Apply.{apply}
 use Rattle.frame.specs.Step.{step}
 use Rattle.model.specs.FrameStep as Walk
-use Rattle.model.specs.FrameStep.{Frame, Step, sectionOf, lookedUp, callerFile, notAdvancing, callerOf, past, pastFound, frameStep}
-use Rattle.unwind.specs.Turns.{fileTold, callerByRun, advanced, passed, functionOf, recordOf}
+use Rattle.model.specs.FrameStep.{Frame, Step, sectionOf, lookedUp, callerFile, notAdvancing, callerOf, functionOf, find, past, pastFound, frameStep}
+use Rattle.unwind.specs.Turns.{fileTold, callerByRun, advanced, passed, recordOf}
 
 -- a file in place tells the outcome that it was made of
 pub in-place-told : (entry : List ℕ) (o : Outcome (List ℕ)) (s : Status) (exit : List ℕ) → InPlace entry o s exit → fileTold s exit ≡ o
@@ -60,53 +60,53 @@ module _ (a : Arch) (m : Memory) (interrupted : Bool) (r : Record) (at : ℕ) (f
   caller-2 v off e = rw (eq-eqb (r .version) 2 v, sym e)
 
 -- past a frame with its record: the caller's registers, then 20
-pub past-told : (a : Arch) (m : Memory) (f : Frame) (r : Record) (at : ℕ) → at ≡ lookedUp (f .interrupted) (pc (f .file)) →
-    (s : Status) (file : List ℕ) → fileTold s file ≡ callerFile a m (f .interrupted) r at (f .file) → (k : ℕ) → k ≡ a .sp →
-    (t : Status) → t ≡ advanced (f .number) (getD (f .file) k 0) (getD file k 0) s → passed f r t file ≡ past a m f r
+pub past-told : (a : Arch) (l : Lent) (f : Frame) (r : Record) (at : ℕ) → at ≡ lookedUp (f .interrupted) (pc (f .file)) →
+    (s : Status) (file : List ℕ) → fileTold s file ≡ callerFile a (l .regions) (f .interrupted) r at (f .file) → (k : ℕ) → k ≡ a .sp →
+    (t : Status) → t ≡ advanced (f .number) (getD (f .file) k 0) (getD file k 0) s → passed l f r t file ≡ past a l f r
 unfolding past notAdvancing
-past-told a m f r at looked s file p k q t e =
-    ap (λ (x : Status). passed f r x file) e
-    ∙ ap (λ (x : ℕ). passed f r (advanced (f .number) (getD (f .file) x 0) (getD file x 0) s) file) q
+past-told a l f r at looked s file p k q t e =
+    ap (λ (x : Status). passed l f r x file) e
+    ∙ ap (λ (x : ℕ). passed l f r (advanced (f .number) (getD (f .file) x 0) (getD file x 0) s) file) q
     ∙ by-status s
     ∙ ap (λ (o : Outcome (List ℕ)). o >>= after) p
-    ∙ ap (λ (x : ℕ). callerFile a m (f .interrupted) r x (f .file) >>= after) looked
+    ∙ ap (λ (x : ℕ). callerFile a (l .regions) (f .interrupted) r x (f .file) >>= after) looked
   where
     after : List ℕ → Outcome Step
     after next =
         if notAdvancing a (f .number) (f .file) next then Outcome.Refused StackNotAdvancing
-        else Answer (Walk.Past r (callerOf f next))
+        else Answer (Walk.Past r (callerOf l f next))
 
     by-test : (b : Bool) →
-        passed f r (if b then status.Refused StackNotAdvancing else status.Done) file
-        ≡ (if b then Outcome.Refused StackNotAdvancing else Answer (Walk.Past r (callerOf f file)))
+        passed l f r (if b then status.Refused StackNotAdvancing else status.Done) file
+        ≡ (if b then Outcome.Refused StackNotAdvancing else Answer (Walk.Past r (callerOf l f file)))
     by-test true = refl
     by-test false = refl
 
-    by-status : (s : Status) → passed f r (advanced (f .number) (sp a (f .file)) (sp a file) s) file ≡ (fileTold s file >>= after)
+    by-status : (s : Status) → passed l f r (advanced (f .number) (sp a (f .file)) (sp a file) s) file ≡ (fileTold s file >>= after)
     by-status status.Done = by-test (notAdvancing a (f .number) (f .file) file)
     by-status (status.Refused n) = refl
 
-module _ (section : List ℕ) (base arch number : ℕ) (interrupted : Bool) (at : ℕ) where
+module _ (l : Lent) (arch number : ℕ) (interrupted : Bool) (at : ℕ) where
   -- pc 0 ends the walk
-  pub record-end : at ≡ 0 → Answer none ≡ recordOf section base arch number interrupted at
+  pub record-end : at ≡ 0 → Answer none ≡ recordOf l arch number interrupted at
   unfolding recordOf
   record-end e = rw (eq-eqb at 0 e)
 
   module _ (some-pc : at ≡ 0 → ⊥) where
     -- 1,024 frames were given
-    pub record-29 : 1024 ≤ number → Outcome.Refused TooManyFrames ≡ recordOf section base arch number interrupted at
+    pub record-29 : 1024 ≤ number → Outcome.Refused TooManyFrames ≡ recordOf l arch number interrupted at
     unfolding recordOf
     record-29 h = rw (ne-eqb at 0 some-pc, le-ltb number 1024 h)
 
     -- what lookup found
-    pub record-looked : number < 1024 → (k : ℕ) → k ≡ lookedUp interrupted at → (l v : Lookup) →
-        looked l ≡ lookup section base k arch → l ≡ v →
-        (looked v >>= λ found. Answer (functionOf found)) ≡ recordOf section base arch number interrupted at
-    unfolding recordOf
-    record-looked h k g l v q w = rw (ne-eqb at 0 some-pc, lt-ltb number 1024 h, sym g, sym q, w)
+    pub record-looked : number < 1024 → (k : ℕ) → k ≡ lookedUp interrupted at → (x v : Lookup) →
+        looked x ≡ lookup (sectionOf (l .regions) .bytes) (sectionOf (l .regions) .base) k arch → x ≡ v →
+        (looked v >>= λ found. Answer (functionOf found)) ≡ recordOf l arch number interrupted at
+    unfolding recordOf find
+    record-looked h k g x v q w = rw (ne-eqb at 0 some-pc, lt-ltb number 1024 h, sym g, sym q, w)
 
   -- a frame that has a record has a pc, and fewer than 1,024 came before it
-  pub record-bounds : (r : Record) → Answer (some r) ≡ recordOf section base arch number interrupted at → (1 ≤ at) × (number < 1024)
+  pub record-bounds : (r : Record) → Answer (some r) ≡ recordOf l arch number interrupted at → (1 ≤ at) × (number < 1024)
   unfolding recordOf
   record-bounds r e = ends (eqb at 0) refl
     where
@@ -124,34 +124,22 @@ module _ (section : List ℕ) (base arch number : ℕ) (interrupted : Bool) (at 
           absurd (omega arith)
       ends false z = counts z (ltb number 1024) refl
 
--- the step of a frame by its record, if it has one
-abbrev pub pastRecord : Arch → Memory → Frame → Option Record → Outcome Step
-pastRecord a m f none = Answer Walk.End
-pastRecord a m f (some r) = past a m f r
-
 -- a frame's record, as the frame step looks for it
-abbrev pub recordIn : ℕ → Memory → Frame → Outcome (Option Record)
-recordIn arch m f = recordOf (sectionOf m .bytes) (sectionOf m .base) arch (f .number) (f .interrupted) (pc (f .file))
+abbrev pub recordIn : ℕ → Lent → Frame → Outcome (Option Record)
+recordIn arch l f = recordOf l arch (f .number) (f .interrupted) (pc (f .file))
 
 -- the frame step by the frame's record
-pub step-by-record : (arch : ℕ) (m : Memory) (f : Frame) (o : Outcome (Option Record)) → o ≡ recordIn arch m f →
-    (o >>= pastRecord (numbers arch) m f) ≡ frameStep arch m f
+pub step-by-record : (arch : ℕ) (l : Lent) (f : Frame) (o : Outcome (Option Record)) → o ≡ recordIn arch l f →
+    (o >>= pastFound (numbers arch) l f) ≡ frameStep arch l f
 unfolding frameStep recordOf
-step-by-record arch m f o e =
-    ap (λ (x : Outcome (Option Record)). x >>= pastRecord (numbers arch) m f) e ∙ ends (eqb (pc (f .file)) 0) refl
+step-by-record arch l f o e =
+    ap (λ (x : Outcome (Option Record)). x >>= pastFound (numbers arch) l f) e ∙ ends (eqb (pc (f .file)) 0) refl
   where
-    found : (x : Outcome (Option Found)) →
-        ((x >>= λ y. Answer (functionOf y)) >>= pastRecord (numbers arch) m f) ≡ (x >>= pastFound (numbers arch) m f)
-    found (Outcome.Refused n) = refl
-    found (Answer none) = refl
-    found (Answer (some y)) = refl
-
     counts : eqb (pc (f .file)) 0 ≡ false → (t : Bool) → ltb (f .number) 1024 ≡ t →
-        (recordIn arch m f >>= pastRecord (numbers arch) m f) ≡ frameStep arch m f
-    counts z true q =
-        rw (z, q) (found (lookup (sectionOf m .bytes) (sectionOf m .base) (lookedUp (f .interrupted) (pc (f .file))) arch))
+        (recordIn arch l f >>= pastFound (numbers arch) l f) ≡ frameStep arch l f
+    counts z true q = rw (z, q)
     counts z false q = rw (z, q)
 
-    ends : (t : Bool) → eqb (pc (f .file)) 0 ≡ t → (recordIn arch m f >>= pastRecord (numbers arch) m f) ≡ frameStep arch m f
+    ends : (t : Bool) → eqb (pc (f .file)) 0 ≡ t → (recordIn arch l f >>= pastFound (numbers arch) l f) ≡ frameStep arch l f
     ends true z = rw z
     ends false z = counts z (ltb (f .number) 1024) refl

@@ -14,6 +14,7 @@ use Rattle.model.specs.Cleanup as Cleanup
 use Rattle.model.specs.Cleanup.{Cleaned}
 use Rattle.model.specs.Unwinding as Unwinding
 use Rattle.model.specs.Unwinding.{frame0, raised, resumed}
+use Rattle.model.specs.Demand.{ResumeCall}
 use Rattle.model.specs.Call.{after}
 use Rattle.mem.specs.Memory.{Lent}
 use Rattle.unwind.specs.declared.Walked.{Walked}
@@ -96,6 +97,10 @@ cleanedAs (resume.Refused n) file next = Outcome.Refused n
 -- the outcome of what `resume` returns
 abbrev pub cleaned : Resumed → Outcome Cleaned
 cleaned r = cleanedAs (r .answer) (r .regs .r) (Unwinding.frameOf (r .unwinding))
+
+-- a sweep call, by what it is given
+abbrev pub callWith : Lent → ℕ → Unwinding → ResumeCall
+callWith l arch u = record { arch = arch; lent = l; unwinding = u }
 
 -- an answer is a landing
 abbrev pub isLanding : ResumeAnswer → Bool

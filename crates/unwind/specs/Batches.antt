@@ -7,7 +7,7 @@ use Rattle.failure.specs.Choice.{if_then_else_}
 use Rattle.failure.specs.Outcome as Outcome
 use Rattle.failure.specs.Outcome.{Outcome, Answer, _>>=_}
 use Rattle.failure.specs.Failure.{BadOpening}
-use Rattle.mem.specs.Memory.{Memory, Lent}
+use Rattle.mem.specs.Memory.{Lent}
 use Rattle.mem.specs.Opening.{opens}
 use Rattle.arch.specs.Arch.{numbers, isKnown}
 use Rattle.arch.specs.File.{sp, pc}
@@ -30,14 +30,14 @@ passedAs Walk.End = End
 passedAs (Walk.Past r next) = Past (r .start) next
 
 -- a frame's step, by what a walk gives
-unfoldable pub given : ℕ → Memory → Frame → Outcome Passed
-given arch m f = frameStep arch m f >>= λ s. Answer (passedAs s)
+unfoldable pub given : ℕ → Lent → Frame → Outcome Passed
+given arch l f = frameStep arch l f >>= λ s. Answer (passedAs s)
 
 -- the same as the code tells it, where the caller has this file
-abbrev pub givenAs : Frame → List ℕ → Given → Outcome Passed
-givenAs f file code.End = Answer End
-givenAs f file (code.Frame start) = Answer (Past start (callerOf f file))
-givenAs f file (code.Refused n) = Outcome.Refused n
+abbrev pub givenAs : Lent → Frame → List ℕ → Given → Outcome Passed
+givenAs l f file code.End = Answer End
+givenAs l f file (code.Frame start) = Answer (Past start (callerOf l f file))
+givenAs l f file (code.Refused n) = Outcome.Refused n
 
 -- no frames
 abbrev pub noFrames : Frames
@@ -66,13 +66,13 @@ walkPast w on (Answer End) = Over w
 walkPast w on (Answer (Past start next)) = on start next
 
 -- so many frames at most, beside those that were given before
-abbrev pub walkFrom : ℕ → ℕ → Memory → Frame → Frames → Walking
-walkFrom zero arch m f w = More w f
-walkFrom (suc n) arch m f w = walkPast w (λ start next. walkFrom n arch m next (oneMore arch start f w)) (given arch m f)
+abbrev pub walkFrom : ℕ → ℕ → Lent → Frame → Frames → Walking
+walkFrom zero arch l f w = More w f
+walkFrom (suc n) arch l f w = walkPast w (λ start next. walkFrom n arch l next (oneMore arch start f w)) (given arch l f)
 
 -- a call of walk: 28 first, then up to 16 frames
 unfoldable pub walking : Lent → ℕ → Frame → Walking
-walking l arch f = if opens l && isKnown arch then walkFrom 16 arch (l .regions) f noFrames else Broken noFrames BadOpening
+walking l arch f = if opens l && isKnown arch then walkFrom 16 arch l f noFrames else Broken noFrames BadOpening
 
 -- the same as the code hands it back
 abbrev pub walkedBy : Frame → Walking → Batch

@@ -9,7 +9,7 @@ use Rattle.failure.specs.Choice.{if_then_else_}
 use Rattle.failure.specs.Outcome as Outcome
 use Rattle.failure.specs.Outcome.{Outcome, Answer, _>>=_}
 use Rattle.failure.specs.Failure.{StackNotAdvancing, TooManyFrames, HandlerFrameMissed}
-use Rattle.mem.specs.Memory.{Memory}
+use Rattle.mem.specs.Memory.{Memory, Lent, lent}
 use Rattle.arch.specs.Arch.{Arch, numbers}
 use Rattle.arch.specs.File.{pc}
 use Rattle.arch.specs.declared.Status.{Status}
@@ -20,7 +20,6 @@ use Rattle.rows.specs.declared.Row.{Row}
 use Rattle.rows.specs.declared.Row.the-variants as row
 use Rattle.rows.specs.Handler2.{handler2}
 use Rattle.lookup.specs.declared.Record.{Record}
-use Rattle.lookup.specs.Lookup as Lookup
 use Rattle.personality.specs.Reason.{rowOf, installed, searchedCode, handlerFound, fatalPhase1}
 use Rattle.program.specs.Run.{run}
 use Rattle.program.specs.declared.Status.{Status as Ending}
@@ -28,7 +27,7 @@ use Rattle.program.specs.declared.Status.the-variants as ending
 use Rattle.frame.specs.Layout.{layout}
 use Rattle.frame.specs.Apply.{apply}
 use Rattle.model.specs.FrameStep as Walk
-use Rattle.model.specs.FrameStep.{Frame, Step, lookedUp, maxFrames, callerOf, frameStep}
+use Rattle.model.specs.FrameStep.{Frame, Step, lookedUp, maxFrames, callerOf, find, frameStep}
 use Rattle.model.specs.Search as Search
 use Rattle.model.specs.Search.{Searched}
 use Rattle.model.specs.Cleanup as Cleanup
@@ -61,29 +60,27 @@ advanced number before after status.Done =
 advanced number before after (status.Refused n) = status.Refused n
 
 -- the step of a frame with this record that a status tells of, beside the file as it is then
-abbrev pub passed : Frame → Record → Status → List ℕ → Outcome Step
-passed f r status.Done file = Answer (Walk.Past r (callerOf f file))
-passed f r (status.Refused n) file = Outcome.Refused n
-
--- what lookup found, by its record
-abbrev pub functionOf : Option Lookup.Found → Option Record
-functionOf none = none
-functionOf (some x) = some (x .function)
+abbrev pub passed : Lent → Frame → Record → Status → List ℕ → Outcome Step
+passed l f r status.Done file = Answer (Walk.Past r (callerOf l f file))
+passed l f r (status.Refused n) file = Outcome.Refused n
 
 -- a frame's record, none where the walk ends: pc 0 ends it; 1,024 frames given, 29; then lookup
-unfoldable pub recordOf : List ℕ → ℕ → ℕ → ℕ → Bool → ℕ → Outcome (Option Record)
-recordOf section base arch number interrupted at =
+unfoldable pub recordOf : Lent → ℕ → ℕ → Bool → ℕ → Outcome (Option Record)
+recordOf l arch number interrupted at =
     if eqb at 0 then Answer none
     else if not (ltb number maxFrames) then Outcome.Refused TooManyFrames
-    else (do
-      found ← Lookup.lookup section base (lookedUp interrupted at) arch
-      Answer (functionOf found))
+    else find l arch (lookedUp interrupted at)
 
 -- the same as the code tells it
 abbrev pub located : Located → Outcome (Option Record)
 located place.End = Answer none
 located (place.At r) = Answer (some r)
 located (place.Refused n) = Outcome.Refused n
+
+-- a frame's record is told, whatever the stack is
+abbrev pub Locates : List ℕ → ℕ → ℕ → ℕ → Bool → ℕ → Located → Type 0
+Locates section base arch number interrupted at x =
+    (stack : List ℕ) (stackBase : ℕ) → located x ≡ recordOf (lent section base stack stackBase) arch number interrupted at
 
 -- what a frame's step and row come to: the end; the record and the caller where no row is found or asked for; the caller with the
 -- record's start and the row
@@ -98,19 +95,19 @@ seenAs r next Found.None = Rowless r next
 seenAs r next (Found.Pad pad action) = WithRow next (r .start) pad action
 
 -- the row is found, with the record and the caller at hand
-abbrev pub rowSeen : ℕ → Memory → Frame → Record → Frame → Outcome Seen
-rowSeen arch m f r next = do
-  row ← rowOf (numbers arch) m (f .interrupted) r (pc (f .file))
+abbrev pub rowSeen : ℕ → Lent → Frame → Record → Frame → Outcome Seen
+rowSeen arch l f r next = do
+  row ← rowOf (numbers arch) (l .regions) (f .interrupted) r (pc (f .file))
   Answer (seenAs r next row)
 
 -- a frame after its step: its row, if rows are asked for
-abbrev pub seenAt : Bool → ℕ → Memory → Frame → Step → Outcome Seen
-seenAt rows arch m f Walk.End = Answer End
-seenAt rows arch m f (Walk.Past r next) = if rows then rowSeen arch m f r next else Answer (Rowless r next)
+abbrev pub seenAt : Bool → ℕ → Lent → Frame → Step → Outcome Seen
+seenAt rows arch l f Walk.End = Answer End
+seenAt rows arch l f (Walk.Past r next) = if rows then rowSeen arch l f r next else Answer (Rowless r next)
 
 -- a frame's step, then its row if rows are asked for
-unfoldable pub seen : Bool → ℕ → Memory → Frame → Outcome Seen
-seen rows arch m f = frameStep arch m f >>= seenAt rows arch m f
+unfoldable pub seen : Bool → ℕ → Lent → Frame → Outcome Seen
+seen rows arch l f = frameStep arch l f >>= seenAt rows arch l f
 
 -- the after-address of a run that came to this status
 abbrev pub endTold : Ending → ℕ → Outcome ℕ
@@ -128,11 +125,11 @@ metRow r (row.Is pad action) = met.Row (r .start) pad action
 metRow r (row.Refused n) = met.Refused n
 
 -- the same as the code tells it, where the caller has this file
-abbrev pub meeting : Frame → List ℕ → Met → Outcome Seen
-meeting f file met.End = Answer End
-meeting f file (met.Rowless r) = Answer (Rowless r (callerOf f file))
-meeting f file (met.Row start pad action) = Answer (WithRow (callerOf f file) start pad action)
-meeting f file (met.Refused n) = Outcome.Refused n
+abbrev pub meeting : Lent → Frame → List ℕ → Met → Outcome Seen
+meeting l f file met.End = Answer End
+meeting l f file (met.Rowless r) = Answer (Rowless r (callerOf l f file))
+meeting l f file (met.Row start pad action) = Answer (WithRow (callerOf l f file) start pad action)
+meeting l f file (met.Refused n) = Outcome.Refused n
 
 -- a turn of the search, where the frames after it come to `rest`
 abbrev pub searchOr : Looking → Outcome Searched → Outcome Searched

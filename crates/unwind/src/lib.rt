@@ -21,10 +21,10 @@ ghost use Rattle.model.specs.FrameStep as Walk;
 ghost use Rattle.model.specs.Search as Search;
 ghost use Rattle.model.specs.Cleanup as Cleanup;
 ghost use Rattle.model.specs.Unwinding as Spec;
-ghost use Rattle.model.specs.Call.{Promised};
-ghost use Rattle.unwind.specs.Answers.{frameWith, frameAt, staying, stepped, searched, raisedBy, unmoved, resumedBy, cleaned, isLanding, callNumber, unwoundBy};
+ghost use Rattle.model.specs.Call.{Promised, GivesNext};
+ghost use Rattle.unwind.specs.Answers.{frameWith, frameAt, staying, stepped, searched, raisedBy, unmoved, resumedBy, cleaned, callWith, isLanding, callNumber, unwoundBy};
 ghost use Rattle.unwind.specs.Batches.{givenAs, given, noFrames, walkFrom, walkedBy, walking};
-ghost use Rattle.unwind.specs.Turns.{fileTold, callerByRun, advanced, passed, recordOf, located, metRow, rowPast, meeting, seen, Follows, SearchTurn, cleanRow, cleanMet};
+ghost use Rattle.unwind.specs.Turns.{fileTold, callerByRun, advanced, passed, recordOf, Locates, metRow, rowPast, meeting, seen, Follows, SearchTurn, cleanRow, cleanMet};
 use arch::COLUMNS;
 use arch::DATA_REG0;
 use arch::DATA_REG1;
@@ -61,6 +61,9 @@ use state::State;
 
 // The most frames that a walk gives.
 pub const MAX_FRAMES: usize = 1024;
+
+// The caller of a frame is interrupted: never; only the first frame can be.
+const CALLER_INTERRUPTED: bool = false;
 
 // The most frames that one call of walk gives.
 pub const BATCH_FRAMES: usize = 16;
@@ -364,9 +367,10 @@ fn past<'a>(
 ) -> Status
     requires { ⌜ at ≡ Walk.lookedUp interrupted (File.pc (now file)) ⌝ }
     ensures { λ r. ⌜
-        passed (frameWith number interrupted (now (file .entry))) «record» r (now (file .exit)) ≡
+        passed (lent (now (section .entry)) «section_base» (now (stack .entry)) «stack_base»)
+        (frameWith number interrupted (now (file .entry))) «record» r (now (file .exit)) ≡
         Walk.past (numbers arch)
-        (lent (now (section .entry)) «section_base» (now (stack .entry)) «stack_base» .regions)
+        (lent (now (section .entry)) «section_base» (now (stack .entry)) «stack_base»)
         (frameWith number interrupted (now (file .entry))) «record»
         ⌝ }
 {
@@ -386,7 +390,7 @@ fn past<'a>(
     advancing(number, before, file[k], status)
 }
 
-// A frame's record. In order: pc 0 ends; 1,024 frames given, 29; then lookup in the section.
+// A frame's record, whatever the stack is. In order: pc 0 ends; 1,024 frames given, 29; then lookup in the section.
 fn locate(
     section: &[u8],
     section_base: usize,
@@ -395,7 +399,7 @@ fn locate(
     interrupted: bool,
     pc: usize,
 ) -> Located
-    ensures { λ r. ⌜ located r ≡ recordOf (now (section .entry)) «section_base» arch number interrupted pc ⌝ }
+    ensures { λ r. ⌜ Locates (now (section .entry)) «section_base» arch number interrupted pc r ⌝ }
 {
     if pc == 0 {
         return Located::End;
@@ -471,13 +475,14 @@ fn meet_through<'a>(
 ) -> Met
     requires { ⌜
         (pc ≡ File.pc (now file)) ×
-        (Answer (some «record») ≡ recordOf (now section) «section_base» arch number interrupted pc) ×
+        (Answer (some «record») ≡ recordOf (lent (now section) «section_base» (now stack) «stack_base») arch number interrupted pc) ×
         (rowless interrupted «record» pc ≡ false) × («record» .version ≡ 2)
         ⌝ }
     ensures { λ r. ⌜
-        meeting (frameWith number interrupted (now (file .entry))) (now (file .exit)) r ≡
+        meeting (lent (now (section .entry)) «section_base» (now (stack .entry)) «stack_base»)
+        (frameWith number interrupted (now (file .entry))) (now (file .exit)) r ≡
         seen true arch
-        (lent (now (section .entry)) «section_base» (now (stack .entry)) «stack_base» .regions)
+        (lent (now (section .entry)) «section_base» (now (stack .entry)) «stack_base»)
         (frameWith number interrupted (now (file .entry)))
         ⌝ }
 {
@@ -555,12 +560,13 @@ fn meet_at<'a>(
 ) -> Met
     requires { ⌜
         (pc ≡ File.pc (now file)) ×
-        (Answer (some «record») ≡ recordOf (now section) «section_base» arch number interrupted pc)
+        (Answer (some «record») ≡ recordOf (lent (now section) «section_base» (now stack) «stack_base») arch number interrupted pc)
         ⌝ }
     ensures { λ r. ⌜
-        meeting (frameWith number interrupted (now (file .entry))) (now (file .exit)) r ≡
+        meeting (lent (now (section .entry)) «section_base» (now (stack .entry)) «stack_base»)
+        (frameWith number interrupted (now (file .entry))) (now (file .exit)) r ≡
         seen rows arch
-        (lent (now (section .entry)) «section_base» (now (stack .entry)) «stack_base» .regions)
+        (lent (now (section .entry)) «section_base» (now (stack .entry)) «stack_base»)
         (frameWith number interrupted (now (file .entry)))
         ⌝ }
 {
@@ -625,9 +631,10 @@ fn meet<'a>(
     file: &mut [usize; COLUMNS],
 ) -> Met
     ensures { λ r. ⌜
-        meeting (frameWith number interrupted (now (file .entry))) (now (file .exit)) r ≡
+        meeting (lent (now (section .entry)) «section_base» (now (stack .entry)) «stack_base»)
+        (frameWith number interrupted (now (file .entry))) (now (file .exit)) r ≡
         seen rows arch
-        (lent (now (section .entry)) «section_base» (now (stack .entry)) «stack_base» .regions)
+        (lent (now (section .entry)) «section_base» (now (stack .entry)) «stack_base»)
         (frameWith number interrupted (now (file .entry)))
         ⌝ }
 {
@@ -689,7 +696,7 @@ fn step_from<'a>(
     ensures { λ r. ⌜
         r ≡ stepped (frameAt number interrupted regs)
         (Walk.frameStep arch
-        (lent (now (section .entry)) «section_base» (now (stack .entry)) «stack_base» .regions)
+        (lent (now (section .entry)) «section_base» (now (stack .entry)) «stack_base»)
         (frameAt number interrupted regs))
         ⌝ }
 {
@@ -709,7 +716,7 @@ fn step_from<'a>(
         Met::Rowless(record) => Stepped {
             answer: Walked::Past(record),
             number: number + 1,
-            interrupted: false,
+            interrupted: CALLER_INTERRUPTED,
             regs: Regs { r: file },
         },
         // no row is asked for, so none is met
@@ -764,9 +771,10 @@ fn pass<'a>(
     file: &mut [usize; COLUMNS],
 ) -> Given
     ensures { λ r. ⌜
-        givenAs (frameWith number interrupted (now (file .entry))) (now (file .exit)) r ≡
+        givenAs (lent (now (section .entry)) «section_base» (now (stack .entry)) «stack_base»)
+        (frameWith number interrupted (now (file .entry))) (now (file .exit)) r ≡
         given arch
-        (lent (now (section .entry)) «section_base» (now (stack .entry)) «stack_base» .regions)
+        (lent (now (section .entry)) «section_base» (now (stack .entry)) «stack_base»)
         (frameWith number interrupted (now (file .entry)))
         ⌝ }
 {
@@ -803,7 +811,7 @@ fn walk_from<'a>(
     ensures { λ r. ⌜
         r ≡ walkedBy (frameAt number interrupted regs)
         (walkFrom 16 arch
-        (lent (now (section .entry)) «section_base» (now (stack .entry)) «stack_base» .regions)
+        (lent (now (section .entry)) «section_base» (now (stack .entry)) «stack_base»)
         (frameAt number interrupted regs) noFrames)
         ⌝ }
 {
@@ -833,7 +841,7 @@ fn walk_from<'a>(
                 pcs[count] = pc;
                 sps[count] = sp;
                 at += 1;
-                first = false;
+                first = CALLER_INTERRUPTED;
             }
             Given::End => return Batch {
                 answer: WalkAnswer::End,
@@ -959,7 +967,7 @@ fn search<'a>(
     ensures { λ r. ⌜
         searched r ≡
         Search.search arch
-        (lent (now (section .entry)) «section_base» (now (stack .entry)) «stack_base» .regions)
+        (lent (now (section .entry)) «section_base» (now (stack .entry)) «stack_base»)
         (frameAt 0 interrupted regs)
         ⌝ }
 {
@@ -983,7 +991,7 @@ fn search<'a>(
         match search_turn(number, sp, met) {
             Looking::On => {
                 number += 1;
-                first = false;
+                first = CALLER_INTERRUPTED;
             }
             Looking::Stop(answer) => return answer,
         }
@@ -1153,7 +1161,7 @@ fn clean<'a>(
     ensures { λ r. ⌜
         r ≡ resumedBy unwinding
         (Cleanup.cleanFrom 1025 arch
-        (lent (now (section .entry)) «section_base» (now (stack .entry)) «stack_base» .regions)
+        (lent (now (section .entry)) «section_base» (now (stack .entry)) «stack_base»)
         (unwinding .exception) (Spec.choiceOf unwinding) (Spec.frameOf unwinding))
         ⌝ }
 {
@@ -1182,14 +1190,14 @@ fn clean<'a>(
         ) {
             Cleaning::On => {
                 number += 1;
-                interrupted = false;
+                interrupted = CALLER_INTERRUPTED;
             }
             Cleaning::Install(start, pad) => {
                 install(unwinding.exception, start, pad, &mut own);
                 return Resumed {
                     answer: ResumeAnswer::Install(number),
                     regs: Regs { r: own },
-                    unwinding: going_on(unwinding, number + 1, false, Regs { r: file }),
+                    unwinding: going_on(unwinding, number + 1, CALLER_INTERRUPTED, Regs { r: file }),
                 };
             }
             Cleaning::Fatal => return unchanged(ResumeAnswer::Fatal, unwinding),
@@ -1198,7 +1206,9 @@ fn clean<'a>(
     }
 }
 
-// resume: finished where nothing is chosen or the chosen frame has landed, else the next landing.
+// resume: finished where nothing is chosen or the chosen frame has landed, else the next landing. After a machine's throw and calls that
+// document 01's demand 3 speaks of it gives the next landing due, also over a stack that landing pads have written to since, as long as
+// the live slots of the frames not yet passed are as they were (`Usable` of `model`).
 pub fn resume<'a>(
     section: &'a [u8],
     section_base: usize,
@@ -1208,8 +1218,11 @@ pub fn resume<'a>(
     unwinding: Unwinding,
 ) -> Resumed
     ensures { λ r. ⌜
-        r ≡ resumedBy unwinding
-        (Spec.resume (lent (now (section .entry)) «section_base» (now (stack .entry)) «stack_base») arch unwinding)
+        (r ≡ resumedBy unwinding
+        (Spec.resume (lent (now (section .entry)) «section_base» (now (stack .entry)) «stack_base») arch unwinding))
+        × GivesNext (callWith
+        (lent (now (section .entry)) «section_base» (now (stack .entry)) «stack_base»)
+        arch unwinding) (cleaned r)
         ⌝ }
 {
     if !accepted(section, section_base, stack, stack_base, arch) {
@@ -1270,7 +1283,7 @@ fn resume_nth<'a>(
 }
 
 // raise, then n + 1 calls of resume: the answers of the throw and of the last call. At a machine's throw they are those that document
-// 01's demand 3 asks of regular calls.
+// 01's demand 3 asks of regular calls, also over another stack that has the live slots of the machine's.
 pub fn unwind<'a>(
     section: &'a [u8],
     section_base: usize,

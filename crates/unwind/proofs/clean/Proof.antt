@@ -6,13 +6,14 @@ use Rattle.mem.specs.Memory.{lent}
 use Rattle.unwind.specs.Answers.{frameWith}
 use Rattle.unwind.specs.declared.Cleaning.the-variants.{Refused}
 use Rattle.unwind.proofs.CleanupPhase.{UnderWay, apart-on, apart-install, cleaning-begin, cleaning-below, cleaning-on, cleaning-lands, cleaning-fatal, cleaning-refused}
+use Rattle.unwind.proofs.Meeting.{never-interrupted}
 use borrow.Author.Needs.{needs}
 use Rattle.unwind.proofs.clean.Statement.{statement}
 use Rattle.unwind.proofs.clean.Tie as tie
 
 abbrev Inv-loop : tie.InvT-loop
 Inv-loop section section-base stack stack-base arch unwinding k file₀ number₀ interrupted₀ file number interrupted =
-    UnderWay arch (lent section section-base stack stack-base .regions) unwinding (frameWith number interrupted file)
+    UnderWay arch (lent section section-base stack stack-base) unwinding (frameWith number interrupted file)
 
 abbrev μ-loop : tie.MeasureT-loop
 μ-loop section section-base stack stack-base arch unwinding k file₀ number₀ interrupted₀ file number interrupted =
@@ -64,7 +65,7 @@ loop-less c =
 loop-again : tie.Need-loop-again Inv-loop μ-loop
 loop-again c =
     cleaning-on _ _ _ _ (c .before .before .before .before .before .meet .last .1 .1 .1 .1 .1 .1 .1 .1 .0) (c .before .before .before .before .before .meet .result) (c .before .before .before .before .before .meet .ensures) _ _ refl _ (c .before .before .before .before .before .before .before .before .before .before .sp-column .ensures .0) refl _
-    (c .before .before .clean-turn .ensures) (c .before .before .before .before .before .before .before .loop .inv) (c .enum-told .given .1)
+    (c .before .before .clean-turn .ensures) (c .before .before .before .before .before .before .before .loop .inv) (c .enum-told .given .1) _ (never-interrupted _ _)
 
 enum-known-start : tie.Need-enum-known-start Inv-loop μ-loop
 enum-known-start c =
@@ -93,7 +94,7 @@ returns : tie.Need-returns Inv-loop μ-loop
 returns c =
     cleaning-lands _ _ _ _ (c .before .before .before .before .before .before .before .before .before .meet .last .1 .1 .1 .1 .1 .1 .1 .1 .0) (c .before .before .before .before .before .before .before .before .before .meet .result) (c .before .before .before .before .before .before .before .before .before .meet .ensures) _ _ refl _ (c .before .before .before .before .before .before .before .before .before .before .before .before .before .before .sp-column .ensures .0) refl _
     (c .before .before .before .before .before .before .clean-turn .ensures) (c .before .before .before .before .before .before .before .before .before .before .before .loop .inv) _ _ (c .before .before .before .before .start .given .1) _
-    (c .before .install .ensures) _ (c .going-on .ensures)
+    (c .before .install .ensures) _ (never-interrupted _ _) _ (c .going-on .ensures)
 
 enum-told-2 : tie.Need-enum-told-2 Inv-loop μ-loop
 enum-told-2 c =

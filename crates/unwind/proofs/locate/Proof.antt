@@ -6,11 +6,11 @@ use Rattle.unwind.proofs.locate.Tie as tie
 
 returns : tie.Need-returns
 returns c =
-    record-end _ _ _ _ _ _ (c .if1 .taken)
+    λ stack base. record-end _ _ _ _ _ (c .if1 .taken)
 
 returns-2 : tie.Need-returns-2
 returns-2 c =
-    record-29 _ _ _ _ _ _ (c .before .if1 .left) (c .if2 .taken)
+    λ stack base. record-29 _ _ _ _ _ (c .before .if1 .left) (c .if2 .taken)
 
 looked-up-requires : tie.Need-looked-up-requires
 looked-up-requires c κs = search needs
@@ -38,27 +38,27 @@ enum-told-5 c = search needs
 
 returns-3 : tie.Need-returns-3
 returns-3 c =
-    record-looked _ _ _ _ _ _ (c .before .before .before .before .before .before .if1 .left) (c .before .before .before .before .before .if2 .left) _ (c .before .before .before .before .looked-up .ensures) _ _ (c .before .before .before .lookup-part .ensures) (c .before .«record» .given .1)
+    λ stack base. record-looked _ _ _ _ _ (c .before .before .before .before .before .before .if1 .left) (c .before .before .before .before .before .if2 .left) _ (c .before .before .before .before .looked-up .ensures) _ _ (c .before .before .before .lookup-part .ensures) (c .before .«record» .given .1)
 
 returns-4 : tie.Need-returns-4
 returns-4 c =
-    record-looked _ _ _ _ _ _ (c .before .before .before .before .before .if1 .left) (c .before .before .before .before .if2 .left) _ (c .before .before .before .looked-up .ensures) _ _ (c .before .before .lookup-part .ensures) (c .enum-told .given .1)
+    λ stack base. record-looked _ _ _ _ _ (c .before .before .before .before .before .if1 .left) (c .before .before .before .before .if2 .left) _ (c .before .before .before .looked-up .ensures) _ _ (c .before .before .lookup-part .ensures) (c .enum-told .given .1)
 
 returns-5 : tie.Need-returns-5
 returns-5 c =
-    record-looked _ _ _ _ _ _ (c .before .before .before .before .before .if1 .left) (c .before .before .before .before .if2 .left) _ (c .before .before .before .looked-up .ensures) _ _ (c .before .before .lookup-part .ensures) (c .enum-told2 .given .1)
+    λ stack base. record-looked _ _ _ _ _ (c .before .before .before .before .before .if1 .left) (c .before .before .before .before .if2 .left) _ (c .before .before .before .looked-up .ensures) _ _ (c .before .before .lookup-part .ensures) (c .enum-told2 .given .1)
 
 returns-6 : tie.Need-returns-6
 returns-6 c =
-    record-looked _ _ _ _ _ _ (c .before .before .before .before .before .if1 .left) (c .before .before .before .before .if2 .left) _ (c .before .before .before .looked-up .ensures) _ _ (c .before .before .lookup-part .ensures) (c .enum-told3 .given .1)
+    λ stack base. record-looked _ _ _ _ _ (c .before .before .before .before .before .if1 .left) (c .before .before .before .before .if2 .left) _ (c .before .before .before .looked-up .ensures) _ _ (c .before .before .lookup-part .ensures) (c .enum-told3 .given .1)
 
 returns-7 : tie.Need-returns-7
 returns-7 c =
-    record-looked _ _ _ _ _ _ (c .before .before .before .before .before .if1 .left) (c .before .before .before .before .if2 .left) _ (c .before .before .before .looked-up .ensures) _ _ (c .before .before .lookup-part .ensures) (c .enum-told4 .given .1)
+    λ stack base. record-looked _ _ _ _ _ (c .before .before .before .before .before .if1 .left) (c .before .before .before .before .if2 .left) _ (c .before .before .before .looked-up .ensures) _ _ (c .before .before .lookup-part .ensures) (c .enum-told4 .given .1)
 
 returns-8 : tie.Need-returns-8
 returns-8 c =
-    record-looked _ _ _ _ _ _ (c .before .before .before .before .before .if1 .left) (c .before .before .before .before .if2 .left) _ (c .before .before .before .looked-up .ensures) _ _ (c .before .before .lookup-part .ensures) (c .enum-told5 .given .1)
+    λ stack base. record-looked _ _ _ _ _ (c .before .before .before .before .before .if1 .left) (c .before .before .before .before .if2 .left) _ (c .before .before .before .looked-up .ensures) _ _ (c .before .before .lookup-part .ensures) (c .enum-told5 .given .1)
 
 pub locate-spec : {M : Type 1} → statement M
 locate-spec =

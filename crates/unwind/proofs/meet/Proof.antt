@@ -20,21 +20,21 @@ enum-known-record c = search needs
 
 meet-at-requires : tie.Need-meet-at-requires
 meet-at-requires c κs =
-    (refl, ap located (sym (c .before .before .«record» .given .1)) ∙ c .before .before .before .before .locate .ensures)
+    (refl, ap located (sym (c .before .before .«record» .given .1)) ∙ c .before .before .before .before .locate .ensures _ _)
 
 enum-known-n : tie.Need-enum-known-n
 enum-known-n c = search needs
 
 returns : tie.Need-returns
 returns c =
-    seen-located _ _ _ _ _ (c .before .before .locate .ensures) (c .enum-told .given .1) _
+    seen-located _ _ _ _ _ (c .before .before .locate .ensures _ _) (c .enum-told .given .1) _
 
 returns-2 : tie.Need-returns-2
 returns-2 c = search needs
 
 returns-3 : tie.Need-returns-3
 returns-3 c =
-    seen-located _ _ _ _ _ (c .before .before .before .locate .ensures) (c .before .n .given .1) _
+    seen-located _ _ _ _ _ (c .before .before .before .locate .ensures _ _) (c .before .n .given .1) _
 
 pub meet-spec : {M : Type 1} → statement M
 meet-spec =

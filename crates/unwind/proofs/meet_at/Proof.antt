@@ -26,7 +26,7 @@ returns c =
 
 looked-up-requires : tie.Need-looked-up-requires
 looked-up-requires c κs =
-    record-bounds _ _ _ _ _ _ _ (c .before .before .before .before .before .pre .1) .0
+    record-bounds _ _ _ _ _ _ (c .before .before .before .before .before .pre .1) .0
 
 past-requires : tie.Need-past-requires
 past-requires c κs =
@@ -38,7 +38,7 @@ enum-told c = search needs
 returns-2 : tie.Need-returns-2
 returns-2 c =
     meets-unasked _ _ _ _ _ (c .before .before .before .before .before .before .before .before .before .before .before .pre .0) (c .before .before .before .before .before .before .before .before .before .before .before .pre .1) _ _ (c .before .before .before .before .before .before .before .before .asked .ensures) (not-true _ (c .if3 .taken)) _
-    (passed-told _ _ _ _ _ _ (c .before .before .before .past .ensures) (c .before .enum-told .given .1))
+    (passed-told _ _ _ _ _ _ _ (c .before .before .before .past .ensures) (c .before .enum-told .given .1))
 
 sub-handler-at : tie.Need-sub-handler-at
 sub-handler-at c =
@@ -61,13 +61,13 @@ returns-3 c =
     let asked = asked-rows (x .rows) (x .interrupted) (x .«record») (x .pc) _ (c .before .before .before .before .before .before .before .before .before .before .before .asked .ensures) yes in
     let other : x .«record» .version ≡ 2 → ⊥ = ⊎-elim (λ l. absurd (not-both _ yes (l .1 .left))) (λ e. e .left) (c .before .before .before .before .before .before .before .before .before .if1 .came) in
     meets-row _ _ _ _ _ (c .before .before .before .before .before .before .before .before .before .before .before .before .before .before .pre .0) (c .before .before .before .before .before .before .before .before .before .before .before .before .before .before .pre .1) _ (asked .0) _
-    (passed-told _ _ _ _ _ _ (c .before .before .before .before .before .before .past .ensures) (c .before .before .before .before .enum-told .given .1)) (c .before .handler-at .result)
+    (passed-told _ _ _ _ _ _ _ (c .before .before .before .before .before .before .past .ensures) (c .before .before .before .before .enum-told .given .1)) (c .before .handler-at .result)
     (row-1 _ _ _ _ _ (asked .1) other _ (c .before .handler-at .ensures)) _ (c .met-row .ensures)
 
 returns-4 : tie.Need-returns-4
 returns-4 c =
     meets-refused _ _ _ _ _ (c .before .before .before .before .before .before .before .before .before .before .before .pre .0) (c .before .before .before .before .before .before .before .before .before .before .before .pre .1) _ _
-    (passed-told _ _ _ _ _ _ (c .before .before .before .past .ensures) (c .before .n .given .1))
+    (passed-told _ _ _ _ _ _ _ (c .before .before .before .past .ensures) (c .before .n .given .1))
 
 pub meet-at-spec : {M : Type 1} → statement M
 meet-at-spec =

@@ -12,7 +12,7 @@ use Rattle.unwind.proofs.meet_through.Tie as tie
 
 looked-up-requires : tie.Need-looked-up-requires
 looked-up-requires c κs =
-    record-bounds _ _ _ _ _ _ _ (c .before .before .pre .1) .0
+    record-bounds _ _ _ _ _ _ (c .before .before .pre .1) .0
 
 offset-from-requires : tie.Need-offset-from-requires
 offset-from-requires c κs = search needs
@@ -69,7 +69,7 @@ enum-known-status c = search needs
 returns : tie.Need-returns
 returns c =
     meets-row _ _ _ _ _ (c .before .before .before .before .before .before .before .before .before .before .before .before .before .before .before .before .before .before .pre .0) (c .before .before .before .before .before .before .before .before .before .before .before .before .before .before .before .before .before .before .pre .1) _ refl _
-    (passed-told _ _ _ _ _ _
+    (passed-told _ _ _ _ _ _ _
     (past-told _ _ _ _ _ (c .before .before .before .before .before .before .before .before .before .before .before .before .before .before .before .looked-up .ensures ∙ ap (λ (p : ℕ). lookedUp (c .before .before .before .before .before .before .before .before .before .before .before .before .before .before .before .before .before .before .args .interrupted) p) (c .before .before .before .before .before .before .before .before .before .before .before .before .before .before .before .before .before .before .pre .0)) (c .before .before .before .before .before .before .before .caller-by-state .result)
     (c .before .before .before .before .before .before .before .caller-by-state .last .1 .1 .1 .1 .1 .1 .0)
     (c .before .before .before .before .before .before .before .caller-by-state .ensures
@@ -81,7 +81,7 @@ returns c =
 returns-2 : tie.Need-returns-2
 returns-2 c =
     meets-refused _ _ _ _ _ (c .before .before .before .before .before .before .before .before .before .before .before .before .before .before .before .before .pre .0) (c .before .before .before .before .before .before .before .before .before .before .before .before .before .before .before .before .pre .1) _ _
-    (passed-told _ _ _ _ _ (c .before .before .before .before .before .caller-by-state .last .1 .1 .1 .1 .1 .1 .0)
+    (passed-told _ _ _ _ _ _ (c .before .before .before .before .before .caller-by-state .last .1 .1 .1 .1 .1 .1 .0)
     (past-told _ _ _ _ _ (c .before .before .before .before .before .before .before .before .before .before .before .before .before .looked-up .ensures ∙ ap (λ (p : ℕ). lookedUp (c .before .before .before .before .before .before .before .before .before .before .before .before .before .before .before .before .args .interrupted) p) (c .before .before .before .before .before .before .before .before .before .before .before .before .before .before .before .before .pre .0)) (c .before .before .before .before .before .caller-by-state .result)
     (c .before .before .before .before .before .caller-by-state .last .1 .1 .1 .1 .1 .1 .0)
     (c .before .before .before .before .before .caller-by-state .ensures

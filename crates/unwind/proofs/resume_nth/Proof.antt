@@ -28,7 +28,7 @@ lands-requires c κs = search needs
 returns : tie.Need-returns Inv-loop μ-loop
 returns c =
     let x = c .before .before in
-    calling-settled _ _ _ _ _ _ (x .before .before .loop .inv) (x .resume .result) (x .resume .ensures)
+    calling-settled _ _ _ _ _ _ (x .before .before .loop .inv) (x .resume .result) (x .resume .ensures .0)
     (sym (c .before .lands .ensures) ∙ not-true _ (c .if1 .taken))
 
 add-i : tie.Need-add-i Inv-loop μ-loop
@@ -40,13 +40,13 @@ loop-less c = let less = c .before .before .before .before .loop-test .taken in 
 loop-again : tie.Need-loop-again Inv-loop μ-loop
 loop-again c =
     let x = c .before .before .before in
-    calling-on _ _ _ _ _ _ (x .before .before .loop .inv) (x .before .loop-test .taken) (x .resume .result) (x .resume .ensures)
+    calling-on _ _ _ _ _ _ (x .before .before .loop .inv) (x .before .loop-test .taken) (x .resume .result) (x .resume .ensures .0)
 
 resume-requires-2 : tie.Need-resume-requires-2 Inv-loop μ-loop
 resume-requires-2 c κs = search needs
 
 returns-2 : tie.Need-returns-2 Inv-loop μ-loop
-returns-2 c = calling-over _ _ _ _ _ _ (c .before .before .loop .inv) (c .before .loop-test .left) (c .resume2 .result) (c .resume2 .ensures)
+returns-2 c = calling-over _ _ _ _ _ _ (c .before .before .loop .inv) (c .before .loop-test .left) (c .resume2 .result) (c .resume2 .ensures .0)
 
 pub resume-nth-spec : {M : Type 1} → statement M
 resume-nth-spec =

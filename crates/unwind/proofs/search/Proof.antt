@@ -5,13 +5,14 @@ use Rattle.mem.specs.Memory.{lent}
 use Rattle.model.specs.Search as Search
 use Rattle.unwind.specs.Answers.{frameWith}
 use Rattle.unwind.proofs.Searching.{Searching, searching-begin, searching-below, searching-on, searching-stop}
+use Rattle.unwind.proofs.Meeting.{never-interrupted}
 use borrow.Author.Needs.{needs}
 use Rattle.unwind.proofs.search.Statement.{statement}
 use Rattle.unwind.proofs.search.Tie as tie
 
 abbrev Inv-loop : tie.InvT-loop
 Inv-loop section section-base stack stack-base arch interrupted k number₀ first₀ file₀ number first file =
-    let m = lent section section-base stack stack-base .regions in
+    let m = lent section section-base stack stack-base in
     Searching arch m (Search.search arch m (frameWith number₀ first₀ file₀)) (frameWith number first file)
 
 abbrev μ-loop : tie.MeasureT-loop
@@ -63,7 +64,7 @@ loop-less c =
 loop-again : tie.Need-loop-again Inv-loop μ-loop
 loop-again c =
     searching-on _ _ _ (c .before .before .before .meet .last .1 .1 .1 .1 .1 .1 .1 .1 .0) (c .before .before .before .meet .result) (c .before .before .before .meet .ensures) _ (c .before .before .before .before .before .before .before .sp-column .ensures .0) _
-    (c .before .before .search-turn .ensures) _ (c .before .before .before .before .before .loop .inv) (c .enum-told .given .1)
+    (c .before .before .search-turn .ensures) _ (c .before .before .before .before .before .loop .inv) (c .enum-told .given .1) _ (never-interrupted _ _)
 
 enum-known-answer : tie.Need-enum-known-answer Inv-loop μ-loop
 enum-known-answer c =

@@ -1,8 +1,7 @@
 -- `unwind::step_from` meets its contract. Assumes nothing.
-use mathlib.Core.Path.{_∙_, ap}
+use mathlib.Core.Path.{_∙_}
 use native.Mathlib.Omega.{arith}
-use Rattle.unwind.specs.Answers.{stepped}
-use Rattle.unwind.proofs.Meeting.{met-below, step-met, stays, stays-refused}
+use Rattle.unwind.proofs.Meeting.{met-below, step-met, never-interrupted, steps-past, stays, stays-refused}
 use borrow.Author.Needs.{needs}
 use Rattle.unwind.proofs.step_from.Statement.{statement}
 use Rattle.unwind.proofs.step_from.Tie as tie
@@ -42,7 +41,7 @@ returns c =
 
 returns-2 : tie.Need-returns-2
 returns-2 c =
-    ap (stepped _) (step-met _ _ _ _ (c .before .before .before .meet .result) _ (c .before .before .before .meet .ensures) (c .before .«record» .given .1))
+    steps-past _ _ _ _ _ _ (never-interrupted _ _) (step-met _ _ _ _ (c .before .before .before .meet .result) _ (c .before .before .before .meet .ensures) (c .before .«record» .given .1))
 
 returns-3 : tie.Need-returns-3
 returns-3 c =

@@ -6,13 +6,14 @@ use Rattle.mem.specs.Memory.{lent}
 use Rattle.unwind.specs.Answers.{frameWith, frameAt}
 use Rattle.unwind.specs.Batches.{walkedBy}
 use Rattle.unwind.proofs.Batching.{Onward, onward-begin, onward-below, onward-on, onward-over, onward-end, onward-refused}
+use Rattle.unwind.proofs.Meeting.{never-interrupted}
 use borrow.Author.Needs.{needs}
 use Rattle.unwind.proofs.walk_from.Statement.{statement}
 use Rattle.unwind.proofs.walk_from.Tie as tie
 
 abbrev Inv-loop : tie.InvT-loop
 Inv-loop section section-base stack stack-base arch number interrupted regs k starts₀ pcs₀ sps₀ file₀ at₀ first₀ count₀ starts pcs sps file at first count =
-    Onward arch (lent section section-base stack stack-base .regions) (frameAt number interrupted regs) (frameWith at first file) count starts pcs sps
+    Onward arch (lent section section-base stack stack-base) (frameAt number interrupted regs) (frameWith at first file) count starts pcs sps
 
 abbrev μ-loop : tie.MeasureT-loop
 μ-loop section section-base stack stack-base arch number interrupted regs k starts₀ pcs₀ sps₀ file₀ at₀ first₀ count₀ starts pcs sps file at first count =
@@ -100,7 +101,7 @@ loop-less c =
 
 loop-again : tie.Need-loop-again Inv-loop μ-loop
 loop-again c =
-    onward-on _ _ _ _ _ _ _ _ (c .before .before .before .before .before .before .loop .inv) (c .before .before .before .before .before .loop-test .taken) (c .before .before .before .pass .last .1 .1 .1 .1 .1 .1 .1 .0) (c .before .before .before .pass .result) _ (c .before .before .before .pass .ensures) refl _ (c .before .start .given .1) _ (c .before .before .before .before .before .before .before .before .sp-column .ensures .0)
+    onward-on _ _ _ _ _ _ _ _ (c .before .before .before .before .before .before .loop .inv) (c .before .before .before .before .before .loop-test .taken) (c .before .before .before .pass .last .1 .1 .1 .1 .1 .1 .1 .0) (c .before .before .before .pass .result) _ (c .before .before .before .pass .ensures) refl _ (c .before .start .given .1) _ (c .before .before .before .before .before .before .before .before .sp-column .ensures .0) _ (never-interrupted _ _)
 
 returns-3 : tie.Need-returns-3 Inv-loop μ-loop
 returns-3 c =

@@ -33,11 +33,11 @@ use Rattle.lookup.specs.Lookup.{inRange, searchIn, lookup}
 use Rattle.lookup.proofs.Tested.{soundTest}
 use Rattle.personality.specs.Reason as Reason
 use Rattle.personality.specs.Reason.{rowless, rowAfter, installed, searchedCode}
-use Rattle.model.specs.FrameStep.{callerFile, notAdvancing, past, frameStep}
+use Rattle.model.specs.FrameStep.{nextInterrupted, find, callerFile, notAdvancing, past, frameStep}
 use Rattle.model.specs.Search.{search}
 use Rattle.model.specs.Cleanup.{installPad, clean}
 use Rattle.model.specs.Unwinding.{opened, raise, resume}
-use Rattle.model.specs.Machine.{Fresh, column, isRegister, value, inside, meet, put, written}
+use Rattle.model.specs.Machine.{callerInterrupted, Fresh, column, isRegister, value, inside, meet, put, written}
 use Rattle.model.specs.Described.{layoutAt, samePairs, goodFp, fits, described}
 use Rattle.model.specs.Event.{pushes, calling, keptBy, newFrame, notSpNorPc, callAllowed, entered, spillAllowed, changeAllowed, reloadAllowed, writeAllowed}
 use Rattle.model.specs.Throw.{throwAllowed, rows1, rows2, rowsIn, rowOf}
@@ -45,9 +45,10 @@ use Rattle.model.specs.Sound.{wholeTable, goodTable, goodFrame}
 use Rattle.model.specs.Expected.{padOf, outcome, due}
 use Rattle.model.specs.Demand.{answerOf, current, raisedBy, unwindingOf}
 use Rattle.runs.specs.Scenario.{Holds, labelsRight}
-use Rattle.runs.specs.Living.{Lives}
+use Rattle.runs.specs.Overwritten.{HoldsOver}
+use Rattle.runs.specs.Unusable.{ComeTo, attempts, found, caughtLow, attemptsLow, foundLow}
 use Rattle.runs.proofs.Runs.{fresh-tested, holds-reported}
-use Rattle.runs.proofs.Living.{lives-reported}
+use Rattle.runs.proofs.Overwritten.{over-reported}
 use Rattle.runs.specs.Aarch64 as Aarch64
 use Rattle.runs.specs.X86 as X86
 
@@ -62,7 +63,7 @@ x86-fresh = fresh-tested X86.start refl refl refl refl refl refl
 
 -- every scenario holds
 pub aarch64-scenarios : Holds Aarch64.caught × Holds Aarch64.terminated × Holds Aarch64.uncaught × Holds Aarch64.atEntry
-unfolding bounded apart opens Place.holds bytesAt load byteAt ulebAt numbers isKnown columnOf get set overfull entry save formOf decode frameRegs follow act run savedPairs fpPair raSlot badFp loadSlot applyAt apply pastTable leafCfa fpCfa spCfa frameCfa returnAddress setReturn setFrame setCaller stepAt Step.step readAs passes valid checked entryAt leftBreaks rightBreaks judged handler nextDelta matched handler2 rowsOf word stride chunkAt faulty headAt startAt endAt addressOf handlersOf recordAt recordAt2 recordOf holds badRecord chunksFrom chunks records halve leftMeets rightMeets settle Lookup.search inRange searchIn lookup soundTest rowless rowAfter installed searchedCode Reason.rowOf callerFile notAdvancing past frameStep search installPad clean opened raise resume column isRegister value inside meet put written layoutAt samePairs goodFp fits described pushes calling keptBy newFrame notSpNorPc callAllowed entered spillAllowed changeAllowed reloadAllowed writeAllowed throwAllowed rows1 rows2 rowsIn rowOf wholeTable goodTable goodFrame padOf outcome due answerOf current raisedBy unwindingOf
+unfolding bounded apart opens Place.holds bytesAt load byteAt ulebAt numbers isKnown columnOf get set overfull entry save formOf decode frameRegs follow act run savedPairs fpPair raSlot badFp loadSlot applyAt apply pastTable leafCfa fpCfa spCfa frameCfa returnAddress setReturn setFrame setCaller stepAt Step.step readAs passes valid checked entryAt leftBreaks rightBreaks judged handler nextDelta matched handler2 rowsOf word stride chunkAt faulty headAt startAt endAt addressOf handlersOf recordAt recordAt2 recordOf holds badRecord chunksFrom chunks records halve leftMeets rightMeets settle Lookup.search inRange searchIn lookup soundTest rowless rowAfter installed searchedCode Reason.rowOf callerFile notAdvancing nextInterrupted find past frameStep search installPad clean opened raise resume callerInterrupted column isRegister value inside meet put written layoutAt samePairs goodFp fits described pushes calling keptBy newFrame notSpNorPc callAllowed entered spillAllowed changeAllowed reloadAllowed writeAllowed throwAllowed rows1 rows2 rowsIn rowOf wholeTable goodTable goodFrame padOf outcome due answerOf current raisedBy unwindingOf
 aarch64-scenarios = (
   holds-reported Aarch64.caught aarch64-fresh refl (λ exception. refl),
   holds-reported Aarch64.terminated aarch64-fresh refl (λ exception. refl),
@@ -71,7 +72,7 @@ aarch64-scenarios = (
 )
 
 pub x86-scenarios : Holds X86.caught × Holds X86.terminated × Holds X86.uncaught × Holds X86.inLeaf
-unfolding bounded apart opens Place.holds bytesAt load byteAt ulebAt numbers isKnown columnOf get set overfull entry save formOf decode frameRegs follow act run savedPairs fpPair raSlot badFp loadSlot applyAt apply pastTable leafCfa fpCfa spCfa frameCfa returnAddress setReturn setFrame setCaller stepAt Step.step readAs passes valid checked entryAt leftBreaks rightBreaks judged handler nextDelta matched handler2 rowsOf word stride chunkAt faulty headAt startAt endAt addressOf handlersOf recordAt recordAt2 recordOf holds badRecord chunksFrom chunks records halve leftMeets rightMeets settle Lookup.search inRange searchIn lookup soundTest rowless rowAfter installed searchedCode Reason.rowOf callerFile notAdvancing past frameStep search installPad clean opened raise resume column isRegister value inside meet put written layoutAt samePairs goodFp fits described pushes calling keptBy newFrame notSpNorPc callAllowed entered spillAllowed changeAllowed reloadAllowed writeAllowed throwAllowed rows1 rows2 rowsIn rowOf wholeTable goodTable goodFrame padOf outcome due answerOf current raisedBy unwindingOf
+unfolding bounded apart opens Place.holds bytesAt load byteAt ulebAt numbers isKnown columnOf get set overfull entry save formOf decode frameRegs follow act run savedPairs fpPair raSlot badFp loadSlot applyAt apply pastTable leafCfa fpCfa spCfa frameCfa returnAddress setReturn setFrame setCaller stepAt Step.step readAs passes valid checked entryAt leftBreaks rightBreaks judged handler nextDelta matched handler2 rowsOf word stride chunkAt faulty headAt startAt endAt addressOf handlersOf recordAt recordAt2 recordOf holds badRecord chunksFrom chunks records halve leftMeets rightMeets settle Lookup.search inRange searchIn lookup soundTest rowless rowAfter installed searchedCode Reason.rowOf callerFile notAdvancing nextInterrupted find past frameStep search installPad clean opened raise resume callerInterrupted column isRegister value inside meet put written layoutAt samePairs goodFp fits described pushes calling keptBy newFrame notSpNorPc callAllowed entered spillAllowed changeAllowed reloadAllowed writeAllowed throwAllowed rows1 rows2 rowsIn rowOf wholeTable goodTable goodFrame padOf outcome due answerOf current raisedBy unwindingOf
 x86-scenarios = (
   holds-reported X86.caught x86-fresh refl (λ exception. refl),
   holds-reported X86.terminated x86-fresh refl (λ exception. refl),
@@ -81,39 +82,43 @@ x86-scenarios = (
 
 -- and the two with version 1 words of the other kind
 pub leaf-scenarios : Holds Aarch64.inLeaf × Holds X86.overUnlinked
-unfolding bounded apart opens Place.holds bytesAt load byteAt ulebAt numbers isKnown columnOf get set overfull entry save formOf decode frameRegs follow act run savedPairs fpPair raSlot badFp loadSlot applyAt apply pastTable leafCfa fpCfa spCfa frameCfa returnAddress setReturn setFrame setCaller stepAt Step.step readAs passes valid checked entryAt leftBreaks rightBreaks judged handler nextDelta matched handler2 rowsOf word stride chunkAt faulty headAt startAt endAt addressOf handlersOf recordAt recordAt2 recordOf holds badRecord chunksFrom chunks records halve leftMeets rightMeets settle Lookup.search inRange searchIn lookup soundTest rowless rowAfter installed searchedCode Reason.rowOf callerFile notAdvancing past frameStep search installPad clean opened raise resume column isRegister value inside meet put written layoutAt samePairs goodFp fits described pushes calling keptBy newFrame notSpNorPc callAllowed entered spillAllowed changeAllowed reloadAllowed writeAllowed throwAllowed rows1 rows2 rowsIn rowOf wholeTable goodTable goodFrame padOf outcome due answerOf current raisedBy unwindingOf
+unfolding bounded apart opens Place.holds bytesAt load byteAt ulebAt numbers isKnown columnOf get set overfull entry save formOf decode frameRegs follow act run savedPairs fpPair raSlot badFp loadSlot applyAt apply pastTable leafCfa fpCfa spCfa frameCfa returnAddress setReturn setFrame setCaller stepAt Step.step readAs passes valid checked entryAt leftBreaks rightBreaks judged handler nextDelta matched handler2 rowsOf word stride chunkAt faulty headAt startAt endAt addressOf handlersOf recordAt recordAt2 recordOf holds badRecord chunksFrom chunks records halve leftMeets rightMeets settle Lookup.search inRange searchIn lookup soundTest rowless rowAfter installed searchedCode Reason.rowOf callerFile notAdvancing nextInterrupted find past frameStep search installPad clean opened raise resume callerInterrupted column isRegister value inside meet put written layoutAt samePairs goodFp fits described pushes calling keptBy newFrame notSpNorPc callAllowed entered spillAllowed changeAllowed reloadAllowed writeAllowed throwAllowed rows1 rows2 rowsIn rowOf wholeTable goodTable goodFrame padOf outcome due answerOf current raisedBy unwindingOf
 leaf-scenarios = (
   holds-reported Aarch64.inLeaf aarch64-fresh refl (λ exception. refl),
   holds-reported X86.overUnlinked x86-fresh refl (λ exception. refl),
 )
 
--- the first of each lives on. At the first call nothing of a frame is overwritten; then the frames passed are, those that landed included:
+-- the first of each holds over a stack that is overwritten. At the first call nothing of a frame is; then the frames passed are, those that landed included:
 -- `plain` and `framed`, `old`, and the second `outer`
-pub living-scenarios :
-    Lives Aarch64.caught (
+pub overwritten-scenarios :
+    HoldsOver Aarch64.caught (
     (true ∷ true ∷ true ∷ true ∷ true ∷ []) ∷
     (false ∷ false ∷ true ∷ true ∷ true ∷ []) ∷
     (false ∷ false ∷ false ∷ true ∷ true ∷ []) ∷
     (false ∷ false ∷ false ∷ false ∷ true ∷ []) ∷
     (false ∷ false ∷ false ∷ false ∷ true ∷ []) ∷ [])
-    × Lives X86.caught (
+    × HoldsOver X86.caught (
     (true ∷ true ∷ true ∷ true ∷ true ∷ []) ∷
     (false ∷ false ∷ true ∷ true ∷ true ∷ []) ∷
     (false ∷ false ∷ false ∷ true ∷ true ∷ []) ∷
     (false ∷ false ∷ false ∷ false ∷ true ∷ []) ∷
     (false ∷ false ∷ false ∷ false ∷ true ∷ []) ∷ [])
-unfolding bounded apart opens Place.holds bytesAt load byteAt ulebAt numbers isKnown columnOf get set overfull entry save formOf decode frameRegs follow act run savedPairs fpPair raSlot badFp loadSlot applyAt apply pastTable leafCfa fpCfa spCfa frameCfa returnAddress setReturn setFrame setCaller stepAt Step.step readAs passes valid checked entryAt leftBreaks rightBreaks judged handler nextDelta matched handler2 rowsOf word stride chunkAt faulty headAt startAt endAt addressOf handlersOf recordAt recordAt2 recordOf holds badRecord chunksFrom chunks records halve leftMeets rightMeets settle Lookup.search inRange searchIn lookup soundTest rowless rowAfter installed searchedCode Reason.rowOf callerFile notAdvancing past frameStep search installPad clean opened raise resume column isRegister value inside meet put written layoutAt samePairs goodFp fits described pushes calling keptBy newFrame notSpNorPc callAllowed entered spillAllowed changeAllowed reloadAllowed writeAllowed throwAllowed rows1 rows2 rowsIn rowOf wholeTable goodTable goodFrame padOf outcome due answerOf current raisedBy unwindingOf
-living-scenarios = (
-  lives-reported Aarch64.caught _ (aarch64-scenarios .0) (λ exception. refl),
-  lives-reported X86.caught _ (x86-scenarios .0) (λ exception. refl),
+    × ComeTo X86.caught attempts found
+    × ComeTo caughtLow attemptsLow foundLow
+unfolding bounded apart opens Place.holds bytesAt load byteAt ulebAt numbers isKnown columnOf get set overfull entry save formOf decode frameRegs follow act run savedPairs fpPair raSlot badFp loadSlot applyAt apply pastTable leafCfa fpCfa spCfa frameCfa returnAddress setReturn setFrame setCaller stepAt Step.step readAs passes valid checked entryAt leftBreaks rightBreaks judged handler nextDelta matched handler2 rowsOf word stride chunkAt faulty headAt startAt endAt addressOf handlersOf recordAt recordAt2 recordOf holds badRecord chunksFrom chunks records halve leftMeets rightMeets settle Lookup.search inRange searchIn lookup soundTest rowless rowAfter installed searchedCode Reason.rowOf callerFile notAdvancing nextInterrupted find past frameStep search installPad clean opened raise resume callerInterrupted column isRegister value inside meet put written layoutAt samePairs goodFp fits described pushes calling keptBy newFrame notSpNorPc callAllowed entered spillAllowed changeAllowed reloadAllowed writeAllowed throwAllowed rows1 rows2 rowsIn rowOf wholeTable goodTable goodFrame padOf outcome due answerOf current raisedBy unwindingOf
+overwritten-scenarios = (
+  over-reported Aarch64.caught _ (aarch64-scenarios .0) (λ exception. refl),
+  over-reported X86.caught _ (x86-scenarios .0) (λ exception. refl),
+  λ exception. refl,
+  λ exception. refl,
 )
 
 -- the events of the first scenario of each are within the rules or against them, as their labels say
 pub labels-right : (labelsRight Aarch64.start (Aarch64.caught .labelled) ≡ true) × (labelsRight X86.start (X86.caught .labelled) ≡ true)
-unfolding bounded apart opens Place.holds bytesAt load byteAt ulebAt numbers isKnown columnOf get set overfull entry save formOf decode frameRegs follow act run savedPairs fpPair raSlot badFp loadSlot applyAt apply pastTable leafCfa fpCfa spCfa frameCfa returnAddress setReturn setFrame setCaller stepAt Step.step readAs passes valid checked entryAt leftBreaks rightBreaks judged handler nextDelta matched handler2 rowsOf word stride chunkAt faulty headAt startAt endAt addressOf handlersOf recordAt recordAt2 recordOf holds badRecord chunksFrom chunks records halve leftMeets rightMeets settle Lookup.search inRange searchIn lookup soundTest rowless rowAfter installed searchedCode Reason.rowOf callerFile notAdvancing past frameStep search installPad clean opened raise resume column isRegister value inside meet put written layoutAt samePairs goodFp fits described pushes calling keptBy newFrame notSpNorPc callAllowed entered spillAllowed changeAllowed reloadAllowed writeAllowed throwAllowed rows1 rows2 rowsIn rowOf wholeTable goodTable goodFrame padOf outcome due answerOf current raisedBy unwindingOf
+unfolding bounded apart opens Place.holds bytesAt load byteAt ulebAt numbers isKnown columnOf get set overfull entry save formOf decode frameRegs follow act run savedPairs fpPair raSlot badFp loadSlot applyAt apply pastTable leafCfa fpCfa spCfa frameCfa returnAddress setReturn setFrame setCaller stepAt Step.step readAs passes valid checked entryAt leftBreaks rightBreaks judged handler nextDelta matched handler2 rowsOf word stride chunkAt faulty headAt startAt endAt addressOf handlersOf recordAt recordAt2 recordOf holds badRecord chunksFrom chunks records halve leftMeets rightMeets settle Lookup.search inRange searchIn lookup soundTest rowless rowAfter installed searchedCode Reason.rowOf callerFile notAdvancing nextInterrupted find past frameStep search installPad clean opened raise resume callerInterrupted column isRegister value inside meet put written layoutAt samePairs goodFp fits described pushes calling keptBy newFrame notSpNorPc callAllowed entered spillAllowed changeAllowed reloadAllowed writeAllowed throwAllowed rows1 rows2 rowsIn rowOf wholeTable goodTable goodFrame padOf outcome due answerOf current raisedBy unwindingOf
 labels-right = (refl, refl)
 
 -- so are those of the last one
 pub leaf-labels-right : (labelsRight Aarch64.start Aarch64.toLeaf ≡ true) × (labelsRight X86.start X86.toLeaf ≡ true)
-unfolding bounded apart opens Place.holds bytesAt load byteAt ulebAt numbers isKnown columnOf get set overfull entry save formOf decode frameRegs follow act run savedPairs fpPair raSlot badFp loadSlot applyAt apply pastTable leafCfa fpCfa spCfa frameCfa returnAddress setReturn setFrame setCaller stepAt Step.step readAs passes valid checked entryAt leftBreaks rightBreaks judged handler nextDelta matched handler2 rowsOf word stride chunkAt faulty headAt startAt endAt addressOf handlersOf recordAt recordAt2 recordOf holds badRecord chunksFrom chunks records halve leftMeets rightMeets settle Lookup.search inRange searchIn lookup soundTest rowless rowAfter installed searchedCode Reason.rowOf callerFile notAdvancing past frameStep search installPad clean opened raise resume column isRegister value inside meet put written layoutAt samePairs goodFp fits described pushes calling keptBy newFrame notSpNorPc callAllowed entered spillAllowed changeAllowed reloadAllowed writeAllowed throwAllowed rows1 rows2 rowsIn rowOf wholeTable goodTable goodFrame padOf outcome due answerOf current raisedBy unwindingOf
+unfolding bounded apart opens Place.holds bytesAt load byteAt ulebAt numbers isKnown columnOf get set overfull entry save formOf decode frameRegs follow act run savedPairs fpPair raSlot badFp loadSlot applyAt apply pastTable leafCfa fpCfa spCfa frameCfa returnAddress setReturn setFrame setCaller stepAt Step.step readAs passes valid checked entryAt leftBreaks rightBreaks judged handler nextDelta matched handler2 rowsOf word stride chunkAt faulty headAt startAt endAt addressOf handlersOf recordAt recordAt2 recordOf holds badRecord chunksFrom chunks records halve leftMeets rightMeets settle Lookup.search inRange searchIn lookup soundTest rowless rowAfter installed searchedCode Reason.rowOf callerFile notAdvancing nextInterrupted find past frameStep search installPad clean opened raise resume callerInterrupted column isRegister value inside meet put written layoutAt samePairs goodFp fits described pushes calling keptBy newFrame notSpNorPc callAllowed entered spillAllowed changeAllowed reloadAllowed writeAllowed throwAllowed rows1 rows2 rowsIn rowOf wholeTable goodTable goodFrame padOf outcome due answerOf current raisedBy unwindingOf
 leaf-labels-right = (refl, refl)

@@ -1,5 +1,5 @@
 -- The scenarios hold.
 pub mod Rules
 pub mod Runs
-pub mod Living
+pub mod Overwritten
 pub mod Hold

@@ -6,17 +6,17 @@ use mathlib.Core.Path.{_≡_, refl, _∙_, ap}
 use lib.Dec.{leb}
 use borrow.Author.Tests.{not-true}
 use Rattle.mem.proofs.Tests.{both}
-use Rattle.lookup.specs.Tables.{Entry, records, named}
-use Rattle.model.specs.Machine.{Open, Machine}
+use Rattle.lookup.specs.Tables.{Entry, named}
+use Rattle.model.specs.Machine.{Open, Machine, recordsOf}
 use Rattle.model.specs.Event.{Event, Call, Spill, Change, Reload, Move, Write, call, spill, change, reload, move, step, steps}
 use Rattle.model.specs.Event.{callAllowed, spillAllowed, changeAllowed, reloadAllowed}
-use Rattle.runs.specs.Scenario.{isThere, innermost, within, Labelled, does, against, events, allowedOnly, labelsRight}
+use Rattle.runs.specs.Scenario.{allowedWith, innermost, within, Labelled, does, against, events, allowedOnly, labelsRight}
 
 -- one that is not leaves the machine as it was
 pub against-leaves : (m : Machine) (e : Event) → within m e ≡ false → step m e ≡ m
-against-leaves m (Call chunk index ret) h = go (named chunk index (records (m .section .bytes) (m .section .base) (m .arch))) h
+against-leaves m (Call chunk index ret) h = go (named chunk index (recordsOf (m .tables))) h
   where
-    go : (o : Option Entry) → (isThere o && callAllowed m ret) ≡ false → call m ret o ≡ m
+    go : (o : Option Entry) → allowedWith (λ e. callAllowed m e ret) o ≡ false → call m ret o ≡ m
     go none h = refl
     go (some e) h = rw h
 against-leaves m (Spill reg slot) h = go (m .frames) h

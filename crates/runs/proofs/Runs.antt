@@ -10,7 +10,7 @@ use borrow.Author.Tests.{ltb-true}
 use Rattle.failure.specs.Choice.{if_then_else_}
 use Rattle.failure.specs.Outcome.{Outcome, Refused, Answer}
 use Rattle.failure.specs.Failure.{BadOpening}
-use Rattle.mem.specs.Memory.{Region, Memory, Bytes}
+use Rattle.mem.specs.Memory.{Memory, Bytes}
 use Rattle.mem.specs.Opening.{opens}
 use Rattle.mem.proofs.Tests.{both}
 use Rattle.arch.specs.Arch.{Arch, numbers, isKnown}
@@ -20,15 +20,15 @@ use Rattle.model.specs.declared.Unwinding.{Unwinding}
 use Rattle.model.specs.Search.{Searched}
 use Rattle.model.specs.Cleanup.{Cleaned, Finished, clean}
 use Rattle.model.specs.Unwinding.{opened, frame0, raised, frameOf, choiceOf, resume}
-use Rattle.model.specs.Machine.{Machine, Fresh, memory, lentBy}
+use Rattle.model.specs.Machine.{Tables, Machine, Fresh, archOf, lentBy}
 use Rattle.model.specs.Throw.{Throw, throwAllowed, framesAt}
-use Rattle.model.specs.Sound.{goodFrames}
+use Rattle.model.specs.Sound.{goodFrames, SoundTables}
 use Rattle.model.specs.Expected.{LandingPad, Compared, outcome, due, firstOf}
-use Rattle.model.specs.Demand.{answerOf, regular, currentBy, current, IsRefused, Admissible, unlessRefused, answers, raisedBy, unwindingOf}
+use Rattle.model.specs.Demand.{answerOf, regular, Regular, currentBy, current, IsRefused, Admissible, unlessRefused, answers, raisedBy, unwindingOf}
 use Rattle.runs.specs.Scenario.{Scenario, reached, regulars, handedBack, irregular, mixed, answersAfter, callsFor, Holds}
 
 -- regular sweep calls are a list that demand 3 speaks of
-pub regulars-admissible : (n : ℕ) (m : Machine) (u : Unwinding) → Admissible m u (regulars n m u)
+pub regulars-admissible : (n : ℕ) (m : Machine) (u : Unwinding) → Admissible (Regular m) u (regulars n m u)
 regulars-admissible zero m u = tt
 regulars-admissible (suc n) m u = (inl refl, regulars-admissible n m (current u (regular m u)))
 
@@ -38,7 +38,7 @@ unfolding answerOf resume opened isKnown
 irregular-refused m u = go (opens (lentBy m))
   where
     rest : Outcome Cleaned
-    rest = if u .chosen then clean 3 (memory m) (u .exception) (choiceOf u) (frameOf u) else Answer Finished
+    rest = if u .chosen then clean 3 (lentBy m) (u .exception) (choiceOf u) (frameOf u) else Answer Finished
 
     go : (b : Bool) → (if b then (if isKnown 3 then rest else Refused BadOpening) else Refused BadOpening) ≡ Refused BadOpening
     go true = refl
@@ -50,11 +50,11 @@ unfolding current
 irregular-stays m u = ap (currentBy u u) (irregular-refused m u)
 
 -- a list with such calls is one that demand 3 speaks of
-pub mixed-admissible : (n : ℕ) (m : Machine) (u : Unwinding) → Admissible m u (mixed n m u)
+pub mixed-admissible : (n : ℕ) (m : Machine) (u : Unwinding) → Admissible (Regular m) u (mixed n m u)
 mixed-admissible zero m u = (inr (subst IsRefused (sym (irregular-refused m u)) tt), tt)
 mixed-admissible (suc n) m u = (
   inr (subst IsRefused (sym (irregular-refused m u)) tt),
-  subst (λ (v : Unwinding). Admissible m v (regular m u ∷ mixed n m (current u (regular m u)))) (sym (irregular-stays m u))
+  subst (λ (v : Unwinding). Admissible (Regular m) v (regular m u ∷ mixed n m (current u (regular m u)))) (sym (irregular-stays m u))
       (inl refl, mixed-admissible n m (current u (regular m u))),
 )
 
@@ -90,14 +90,14 @@ bytes-all (r ∷ m) h (suc i) k = bytes-all m (both (allBelow 256 (r .bytes)) (a
 
 -- a machine that passes these tests is fresh
 pub fresh-tested : (m : Machine) → m .frames ≡ [] → length (m .registers) ≡ columns → allBelow (2 ^ 64) (m .registers) ≡ true →
-    opens (lentBy m) ≡ true → allBytes (memory m) ≡ true → isKnown (m .arch) ≡ true → Fresh m
+    opens (lentBy m) ≡ true → allBytes (lentBy m .regions) ≡ true → isKnown (m .tables .arch) ≡ true → Fresh m
 fresh-tested m empty wide values accepted bytes known =
     record {
       empty = empty;
       columns = wide;
       values = below-all (2 ^ 64) (lit< tt) (m .registers) values;
       accepted = accepted;
-      bytes = bytes-all (memory m) bytes;
+      bytes = bytes-all (lentBy m .regions) bytes;
       known = known;
     }
 
@@ -114,8 +114,7 @@ once-answers a (suc n) m u = ap (unlessRefused a (answerOf (regular m u))) (once
 
 -- all that computing shows of a scenario: of the machine that it reaches and the throw there, if that answers so and n sweep calls follow
 pub record Report : Type 0 where
-  pub arch : ℕ
-  pub section : Region
+  pub tables : Tables
   pub allowed : Bool
   pub frames : Bool
   pub answered : Searched
@@ -127,14 +126,13 @@ pub record Report : Type 0 where
 abbrev pub reportOf : Machine → Throw → Searched → ℕ → ℕ → Report
 reportOf m t answer n exception =
     record {
-      arch = m .arch;
-      section = m .section;
+      tables = m .tables;
       allowed = throwAllowed m t;
-      frames = goodFrames (numbers (m .arch)) (m .section) (framesAt m t);
+      frames = goodFrames (m .tables) (framesAt m t);
       answered = outcome m t;
       lands = due m t;
       raises = raisedBy m t;
-      cleans = answersOnce (numbers (m .arch)) n m (raised (frame0 (m .registers) (t .pc) (t .interrupted)) exception (Answer answer));
+      cleans = answersOnce (archOf m) n m (raised (frame0 (m .registers) (t .pc) (t .interrupted)) exception (Answer answer));
     }
 
 -- the report of a scenario
@@ -145,8 +143,7 @@ report s exception = let m = reached s in reportOf m (s .throw) (s .answer) (cal
 abbrev pub expected : Scenario → Report
 expected s =
     record {
-      arch = s .machine .arch;
-      section = s .machine .section;
+      tables = s .machine .tables;
       allowed = true;
       frames = true;
       answered = s .answer;
@@ -155,9 +152,13 @@ expected s =
       cleans = firstOf (callsFor s) (s .landings);
     }
 
+-- a test for sound tables
+abbrev pub tablesTested : Tables → Bool
+tablesTested ts = soundTest (ts .section .bytes) (ts .section .base) (ts .arch)
+
 -- a scenario from a fresh machine with sound tables, whose report is as expected, holds
 pub holds-reported : (s : Scenario) → Fresh (s .machine) →
-    soundTest (s .machine .section .bytes) (s .machine .section .base) (s .machine .arch) ≡ true →
+    tablesTested (s .machine .tables) ≡ true →
     ((exception : ℕ) → report s exception ≡ expected s) → Holds s
 unfolding unwindingOf
 holds-reported s fresh tables e =
@@ -167,8 +168,8 @@ holds-reported s fresh tables e =
       sound =
           record {
             tables =
-                rw (ap (λ (r : Report). r .arch) (e 0), ap (λ (r : Report). r .section) (e 0))
-                (sound-tested (s .machine .section .bytes) (s .machine .section .base) (s .machine .arch) tables);
+                subst SoundTables (sym (ap (λ (r : Report). r .tables) (e 0)))
+                (sound-tested (s .machine .tables .section .bytes) (s .machine .tables .section .base) (s .machine .tables .arch) tables);
             frames = ap (λ (r : Report). r .frames) (e 0);
           };
       answered = ap (λ (r : Report). r .answered) (e 0);
@@ -178,17 +179,18 @@ holds-reported s fresh tables e =
       refuses = irregular-refused (reached s);
       admissible = λ exception. mixed-admissible (callsFor s) (reached s) (handedBack s exception);
       cleansMixed = λ exception.
-          mixed-same (numbers (s .machine .arch)) (callsFor s) (reached s) (handedBack s exception) ∙ answered exception;
+          mixed-same (archOf (s .machine)) (callsFor s) (reached s) (handedBack s exception) ∙ answered exception;
     }
   where
     begun : ℕ → Unwinding
     begun exception = raised (frame0 (reached s .registers) (s .throw .pc) (s .throw .interrupted)) exception (Answer (s .answer))
 
     cleaned : (exception : ℕ) →
-        answers (numbers (s .machine .arch)) (regulars (callsFor s) (reached s) (begun exception)) ≡ firstOf (callsFor s) (s .landings)
+        answers (archOf (s .machine)) (regulars (callsFor s) (reached s) (begun exception)) ≡ firstOf (callsFor s) (s .landings)
     cleaned exception =
-        ap (λ (x : ℕ). answers (numbers x) (regulars (callsFor s) (reached s) (begun exception))) (sym (ap (λ (r : Report). r .arch) (e 0)))
-        ∙ once-answers (numbers (reached s .arch)) (callsFor s) (reached s) (begun exception)
+        ap (λ (ts : Tables). answers (numbers (ts .arch)) (regulars (callsFor s) (reached s) (begun exception)))
+        (sym (ap (λ (r : Report). r .tables) (e 0)))
+        ∙ once-answers (archOf (reached s)) (callsFor s) (reached s) (begun exception)
         ∙ ap (λ (r : Report). r .cleans) (e exception)
 
     answered : (exception : ℕ) → answersAfter s exception (callsFor s) ≡ firstOf (callsFor s) (s .landings)

@@ -61,8 +61,7 @@ section =
 abbrev pub start : Machine
 start =
     record {
-      arch = 1;
-      section = record { base = 0x1000; bytes = section };
+      tables = record { arch = 1; section = record { base = 0x1000; bytes = section } };
       registers =
           1000 ∷ 1001 ∷ 1002 ∷ 1003 ∷ 1004 ∷ 1005 ∷ 1006 ∷ 1007 ∷ 1008 ∷ 1009 ∷ 1010 ∷ 1011 ∷ 1012 ∷ 1013 ∷ 1014 ∷ 1015 ∷
           1016 ∷ 1017 ∷ 1018 ∷ 1019 ∷ 1020 ∷ 1021 ∷ 1022 ∷ 1023 ∷ 1024 ∷ 1025 ∷ 1026 ∷ 1027 ∷ 1028 ∷ 1029 ∷ 1030 ∷ 0x8080 ∷

@@ -8,22 +8,21 @@ use lib.Dec.{leb}
 use lib.ListN.{length}
 use Rattle.failure.specs.Outcome.{Refused, Answer}
 use Rattle.failure.specs.Failure.{BadOpening}
-use Rattle.arch.specs.Arch.{numbers}
-use Rattle.lookup.specs.Tables.{Entry, records, named}
+use Rattle.lookup.specs.Tables.{Entry, named}
 use Rattle.model.specs.declared.Unwinding.{Unwinding}
 use Rattle.model.specs.Search.{Searched}
-use Rattle.model.specs.Machine.{Open, Machine, Fresh, lentBy}
+use Rattle.model.specs.Machine.{Open, Machine, Fresh, archOf, recordsOf, lentBy}
 use Rattle.model.specs.Event.{Event, Call, Spill, Change, Reload, Move, Write, step, steps}
 use Rattle.model.specs.Event.{callAllowed, spillAllowed, changeAllowed, reloadAllowed, writeAllowed}
 use Rattle.model.specs.Throw.{Throw, throwAllowed}
 use Rattle.model.specs.Sound.{Sound}
 use Rattle.model.specs.Expected.{LandingPad, Compared, outcome, due, firstOf}
-use Rattle.model.specs.Demand.{ResumeCall, answerOf, regular, current, Admissible, answers, raisedBy, unwindingOf}
+use Rattle.model.specs.Demand.{ResumeCall, answerOf, regular, Regular, current, Admissible, answers, raisedBy, unwindingOf}
 
--- there is such a record
-abbrev pub isThere : Option Entry → Bool
-isThere none = false
-isThere (some e) = true
+-- there is such a record, and it passes
+abbrev pub allowedWith : (Entry → Bool) → Option Entry → Bool
+allowedWith p none = false
+allowedWith p (some e) = p e
 
 -- there is an innermost frame, and it passes
 abbrev pub innermost : (Open → Bool) → List Open → Bool
@@ -32,8 +31,7 @@ innermost p (f ∷ fs) = p f
 
 -- an event is within the rules
 abbrev pub within : Machine → Event → Bool
-within m (Call chunk index ret) =
-    isThere (named chunk index (records (m .section .bytes) (m .section .base) (m .arch))) && callAllowed m ret
+within m (Call chunk index ret) = allowedWith (λ e. callAllowed m e ret) (named chunk index (recordsOf (m .tables)))
 within m (Spill reg slot) = innermost (λ f. spillAllowed m f reg slot) (m .frames)
 within m (Change reg v) = innermost (λ f. changeAllowed m f reg v) (m .frames)
 within m (Reload reg) = innermost (λ f. reloadAllowed f reg) (m .frames)
@@ -97,7 +95,7 @@ handedBack s exception = unwindingOf (reached s) (s .throw) exception
 
 -- what so many of them give after a scenario, for an exception
 abbrev pub answersAfter : Scenario → ℕ → ℕ → List Compared
-answersAfter s exception n = answers (numbers (s .machine .arch)) (regulars n (reached s) (handedBack s exception))
+answersAfter s exception n = answers (archOf (s .machine)) (regulars n (reached s) (handedBack s exception))
 
 -- a call that is not regular: of architecture 3
 abbrev pub irregular : Machine → Unwinding → ResumeCall
@@ -110,7 +108,7 @@ mixed (suc n) m u = irregular m u ∷ regular m u ∷ mixed n m (current u (regu
 
 -- what they give after a scenario, for an exception
 abbrev pub mixedAfter : Scenario → ℕ → ℕ → List Compared
-mixedAfter s exception n = answers (numbers (s .machine .arch)) (mixed n (reached s) (handedBack s exception))
+mixedAfter s exception n = answers (archOf (s .machine)) (mixed n (reached s) (handedBack s exception))
 
 -- as many calls as there are landings, and two more
 abbrev pub callsFor : Scenario → ℕ
@@ -131,5 +129,5 @@ pub record Holds (s : Scenario) : Type 0 where
   -- irregular calls among them are refused with 28, make a list that demand 3 speaks of, and change no answer
   pub refuses : (u : Unwinding) → answerOf (irregular (reached s) u) ≡ Refused BadOpening
   pub admissible : (exception : ℕ) →
-      Admissible (reached s) (handedBack s exception) (mixed (callsFor s) (reached s) (handedBack s exception))
+      Admissible (Regular (reached s)) (handedBack s exception) (mixed (callsFor s) (reached s) (handedBack s exception))
   pub cleansMixed : (exception : ℕ) → mixedAfter s exception (callsFor s) ≡ firstOf (callsFor s) (s .landings)

@@ -59,8 +59,7 @@ section =
 abbrev pub start : Machine
 start =
     record {
-      arch = 2;
-      section = record { base = 0x1000; bytes = section };
+      tables = record { arch = 2; section = record { base = 0x1000; bytes = section } };
       registers =
           1000 ∷ 1001 ∷ 1002 ∷ 1003 ∷ 1004 ∷ 1005 ∷ 1006 ∷ 0x8090 ∷ 1008 ∷ 1009 ∷ 1010 ∷ 1011 ∷ 1012 ∷ 1013 ∷ 1014 ∷ 1015 ∷
           0 ∷ 0 ∷ 0 ∷ 0 ∷ 0 ∷ 0 ∷ 0 ∷ 0 ∷ 0 ∷ 0 ∷ 0 ∷ 0 ∷ 0 ∷ 0 ∷ 0 ∷ 0 ∷

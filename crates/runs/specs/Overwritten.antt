@@ -1,5 +1,5 @@
--- Closed runs over a stack that lives on: before each sweep call all that lies below the frame that comes next is overwritten, the frame
--- that landed included.
+-- Closed runs over a stack that is overwritten: before each sweep call all that lies below the frame that comes next is overwritten, the
+-- frame that landed included.
 use mathlib.Core.Bool.{Bool, true, _&&_}
 use mathlib.Core.List.{List, [], _∷_, _++_}
 use mathlib.Core.Path.{_≡_}
@@ -7,34 +7,33 @@ use Prim.Native.Nat.{ℕ, zero, suc, _-_}
 use lib.Dec.{eqb}
 use lib.ListN.{drop, replicate}
 use Rattle.mem.specs.Memory.{Region}
-use Rattle.arch.specs.Arch.{numbers}
 use Rattle.arch.specs.File.{sp}
 use Rattle.lookup.specs.Field.{word}
 use Rattle.frame.specs.Layout.{Pair}
 use Rattle.model.specs.declared.Unwinding.{Unwinding}
-use Rattle.model.specs.Machine.{Open, Machine, address, inside}
+use Rattle.model.specs.Machine.{Open, Machine, archOf, address, inside}
 use Rattle.model.specs.Expected.{firstOf}
 use Rattle.model.specs.OtherStack.{withStack}
-use Rattle.model.specs.Demand.{ResumeCall, regular, current, answers}
-use Rattle.model.specs.LiveStack.{LiveAdmissible}
+use Rattle.model.specs.Demand.{ResumeCall, regular, current, Admissible, answers}
+use Rattle.model.specs.LiveStack.{Usable}
 use Rattle.runs.specs.Scenario.{Scenario, reached, handedBack, callsFor}
 
 -- a region with every byte below an address overwritten
 abbrev pub overwritten : Region → ℕ → Region
 overwritten r x = record { base = r .base; bytes = replicate (x - r .base) 0xee ++ drop (x - r .base) (r .bytes) }
 
--- the stack as a sweep call finds it: overwritten up to the sp of the frame that comes next, which is the CFA of the one before it
-abbrev pub found : Machine → Unwinding → Region
-found m u = overwritten (m .stack) (sp (numbers (m .arch)) (u .regs .r))
+-- the stack that a sweep call finds: overwritten up to the sp of the frame that comes next, which is the CFA of the one before it
+abbrev pub stackFor : Machine → Unwinding → Region
+stackFor m u = overwritten (m .stack) (sp (archOf m) (u .regs .r))
 
 -- a sweep call over that stack
-abbrev pub living : Machine → Unwinding → ResumeCall
-living m u = regular (withStack m (found m u)) u
+abbrev pub callOver : Machine → Unwinding → ResumeCall
+callOver m u = regular (withStack m (stackFor m u)) u
 
 -- n such calls, each with the unwinding that the one before it returned
-abbrev pub livings : ℕ → Machine → Unwinding → List ResumeCall
-livings zero m u = []
-livings (suc n) m u = living m u ∷ livings n m (current u (living m u))
+abbrev pub callsOver : ℕ → Machine → Unwinding → List ResumeCall
+callsOver zero m u = []
+callsOver (suc n) m u = callOver m u ∷ callsOver n m (current u (callOver m u))
 
 -- the slots of these pairs below a CFA are the same in another stack
 abbrev pub sameSlots : Region → Region → ℕ → List Pair → Bool
@@ -52,15 +51,15 @@ sameIn stack other (f ∷ fs) = sameSlots stack other (f .cfa) (f .spilled) ∷ 
 -- at each of n such calls: of each frame, its live slots are as they were at the throw
 abbrev pub sameAt : ℕ → Machine → Unwinding → List (List Bool)
 sameAt zero m u = []
-sameAt (suc n) m u = sameIn (m .stack) (found m u) (m .frames) ∷ sameAt n m (current u (living m u))
+sameAt (suc n) m u = sameIn (m .stack) (stackFor m u) (m .frames) ∷ sameAt n m (current u (callOver m u))
 
--- a scenario lives on
-pub record Lives (s : Scenario) (same : List (List Bool)) : Type 0 where
+-- a scenario holds over such stacks
+pub record HoldsOver (s : Scenario) (same : List (List Bool)) : Type 0 where
   -- what each call finds
   pub finds : (exception : ℕ) → sameAt (callsFor s) (reached s) (handedBack s exception) ≡ same
-  -- the calls make a list that demand 3 over a stack that lives on speaks of
+  -- the calls make a list that demand 3 over a live stack speaks of
   pub admissible : (exception : ℕ) →
-      LiveAdmissible (reached s) (handedBack s exception) (livings (callsFor s) (reached s) (handedBack s exception))
+      Admissible (Usable (reached s)) (handedBack s exception) (callsOver (callsFor s) (reached s) (handedBack s exception))
   -- and give the landings
   pub cleans : (exception : ℕ) →
-      answers (numbers (s .machine .arch)) (livings (callsFor s) (reached s) (handedBack s exception)) ≡ firstOf (callsFor s) (s .landings)
+      answers (archOf (s .machine)) (callsOver (callsFor s) (reached s) (handedBack s exception)) ≡ firstOf (callsFor s) (s .landings)

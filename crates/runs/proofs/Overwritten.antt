@@ -1,4 +1,4 @@
--- The part of a closed run over a stack that lives on that is not mere computing. Assumes nothing.
+-- The part of a closed run over a stack that is overwritten that is not mere computing. Assumes nothing.
 use mathlib.Core.Bool.{Bool, true, _&&_}
 use mathlib.Core.List.{List, [], _∷_, List·Memᴰ, List·Memᴰ·not-nil, List·Memᴰ·cases-cons}
 use mathlib.Core.Logic.{inl, ⊎-elim}
@@ -11,20 +11,20 @@ use Rattle.failure.specs.Outcome.{Outcome, Answer}
 use Rattle.mem.specs.Memory.{Region}
 use Rattle.mem.specs.Opening.{opens}
 use Rattle.mem.proofs.Tests.{both}
-use Rattle.arch.specs.Arch.{Arch, numbers}
+use Rattle.arch.specs.Arch.{Arch}
 use Rattle.lookup.specs.Field.{word}
 use Rattle.frame.specs.Layout.{Pair}
 use Rattle.model.specs.declared.Unwinding.{Unwinding}
 use Rattle.model.specs.Cleanup.{Cleaned}
 use Rattle.model.specs.Unwinding.{frame0, raised}
-use Rattle.model.specs.Machine.{Open, Machine, lentBy, address, inside}
+use Rattle.model.specs.Machine.{Open, Machine, archOf, lentBy, address, inside}
 use Rattle.model.specs.Expected.{Compared, firstOf}
 use Rattle.model.specs.OtherStack.{SameWord, SameSlots, SameLive, withStack}
-use Rattle.model.specs.Demand.{answerOf, currentBy, current, unlessRefused, answers, unwindingOf}
-use Rattle.model.specs.LiveStack.{Usable, LiveAdmissible}
-use Rattle.model.proofs.Usable.{from-number}
+use Rattle.model.specs.Demand.{answerOf, currentBy, current, Admissible, unlessRefused, answers, unwindingOf}
+use Rattle.model.specs.LiveStack.{Usable}
+use Rattle.model.proofs.Live.{from-number}
 use Rattle.runs.specs.Scenario.{Scenario, reached, callsFor, Holds}
-use Rattle.runs.specs.Living.{found, living, livings, sameSlots, sameIn, sameAt, Lives}
+use Rattle.runs.specs.Overwritten.{stackFor, callOver, callsOver, sameSlots, sameIn, sameAt, HoldsOver}
 
 -- each of them is true
 abbrev pub allTrue : List Bool → Bool
@@ -58,25 +58,25 @@ frames-tested stack other (g ∷ fs) h f i =
     (λ (t : List·Memᴰ f fs). frames-tested stack other fs rest f t)
     (List·Memᴰ·cases-cons i)
 
--- a living call passes: its stack opens, and the live slots of the frames not yet passed are the same in it
+-- a call passes: its stack opens, and the live slots of the frames not yet passed are the same in it
 abbrev pub passes : Machine → Unwinding → Bool
 passes m u =
-    opens (lentBy (withStack m (found m u))) && allTrue (sameIn (m .stack) (found m u) (drop (u .number) (m .frames)))
+    opens (lentBy (withStack m (stackFor m u))) && allTrue (sameIn (m .stack) (stackFor m u) (drop (u .number) (m .frames)))
 
 -- then it is usable
-passes-usable : (m : Machine) (u : Unwinding) → passes m u ≡ true → Usable m u (living m u)
+passes-usable : (m : Machine) (u : Unwinding) → passes m u ≡ true → Usable m u (callOver m u)
 passes-usable m u h =
     let (accepted, same) =
-    both (opens (lentBy (withStack m (found m u)))) (allTrue (sameIn (m .stack) (found m u) (drop (u .number) (m .frames)))) h in
+    both (opens (lentBy (withStack m (stackFor m u)))) (allTrue (sameIn (m .stack) (stackFor m u) (drop (u .number) (m .frames)))) h in
     record {
-      stack = found m u;
+      stack = stackFor m u;
       is = refl;
       accepted = accepted;
       same = λ e k f least most at.
-          frames-tested (m .stack) (found m u) (drop (u .number) (m .frames)) same f (from-number (u .number) (m .frames) k f least at);
+          frames-tested (m .stack) (stackFor m u) (drop (u .number) (m .frames)) same f (from-number (u .number) (m .frames) k f least at);
     }
 
--- all that computing shows of n living calls: what each finds, whether each passes, and what they give
+-- all that computing shows of n such calls: what each finds, whether each passes, and what they give
 pub record Report : Type 0 where
   pub finds : List (List Bool)
   pub passed : Bool
@@ -86,7 +86,7 @@ pub record Report : Type 0 where
 abbrev pub before : Arch → Machine → Unwinding → Outcome Cleaned → Report → Report
 before a m u o r =
     record {
-      finds = sameIn (m .stack) (found m u) (m .frames) ∷ r .finds;
+      finds = sameIn (m .stack) (stackFor m u) (m .frames) ∷ r .finds;
       passed = passes m u && r .passed;
       gives = unlessRefused a o (r .gives);
     }
@@ -94,44 +94,44 @@ before a m u o r =
 -- n calls, each computed once
 abbrev pub report : Arch → ℕ → Machine → Unwinding → Report
 report a zero m u = record { finds = []; passed = true; gives = [] }
-report a (suc n) m u = let o = answerOf (living m u) in before a m u o (report a n m (currentBy u u o))
+report a (suc n) m u = let o = answerOf (callOver m u) in before a m u o (report a n m (currentBy u u o))
 
 -- what it says of them
 pub record Says (a : Arch) (n : ℕ) (m : Machine) (u : Unwinding) : Type 0 where
   pub finds : sameAt n m u ≡ report a n m u .finds
-  pub usable : report a n m u .passed ≡ true → LiveAdmissible m u (livings n m u)
-  pub gives : answers a (livings n m u) ≡ report a n m u .gives
+  pub usable : report a n m u .passed ≡ true → Admissible (Usable m) u (callsOver n m u)
+  pub gives : answers a (callsOver n m u) ≡ report a n m u .gives
 
 says : (a : Arch) (n : ℕ) (m : Machine) (u : Unwinding) → Says a n m u
 unfolding current
 says a zero m u = record { finds = refl; usable = λ h. tt; gives = refl }
 says a (suc n) m u =
-    let rest = says a n m (current u (living m u)) in
+    let rest = says a n m (current u (callOver m u)) in
     record {
-      finds = ap (λ (bs : List (List Bool)). sameIn (m .stack) (found m u) (m .frames) ∷ bs) (rest .finds);
+      finds = ap (λ (bs : List (List Bool)). sameIn (m .stack) (stackFor m u) (m .frames) ∷ bs) (rest .finds);
       usable =
           λ h.
-          let (here, later) = both (passes m u) (report a n m (current u (living m u)) .passed) h in
+          let (here, later) = both (passes m u) (report a n m (current u (callOver m u)) .passed) h in
           (inl (passes-usable m u here), rest .usable later);
-      gives = ap (unlessRefused a (answerOf (living m u))) (rest .gives);
+      gives = ap (unlessRefused a (answerOf (callOver m u))) (rest .gives);
     }
 
 -- the unwinding that the throw of a scenario hands back, if it answers so
 abbrev pub begun : Scenario → Machine → ℕ → Unwinding
 begun s m exception = raised (frame0 (m .registers) (s .throw .pc) (s .throw .interrupted)) exception (Answer (s .answer))
 
--- a scenario that holds, whose report is as expected, lives on
-pub lives-reported : (s : Scenario) (same : List (List Bool)) → Holds s →
+-- a scenario that holds, whose report is as expected, holds over such stacks
+pub over-reported : (s : Scenario) (same : List (List Bool)) → Holds s →
     ((exception : ℕ) →
-    (let m = reached s in report (numbers (s .machine .arch)) (callsFor s) m (begun s m exception))
-    ≡ record { finds = same; passed = true; gives = firstOf (callsFor s) (s .landings) }) → Lives s same
+    (let m = reached s in report (archOf (s .machine)) (callsFor s) m (begun s m exception))
+    ≡ record { finds = same; passed = true; gives = firstOf (callsFor s) (s .landings) }) → HoldsOver s same
 unfolding unwindingOf
-lives-reported s same holds e =
+over-reported s same holds e =
     record {
       finds = λ exception. rw (holds .raises) (said exception .finds ∙ ap (λ (r : Report). r .finds) (e exception));
       admissible = λ exception. rw (holds .raises) (said exception .usable (ap (λ (r : Report). r .passed) (e exception)));
       cleans = λ exception. rw (holds .raises) (said exception .gives ∙ ap (λ (r : Report). r .gives) (e exception));
     }
   where
-    said : (exception : ℕ) → Says (numbers (s .machine .arch)) (callsFor s) (reached s) (begun s (reached s) exception)
-    said exception = says (numbers (s .machine .arch)) (callsFor s) (reached s) (begun s (reached s) exception)
+    said : (exception : ℕ) → Says (archOf (s .machine)) (callsFor s) (reached s) (begun s (reached s) exception)
+    said exception = says (archOf (s .machine)) (callsFor s) (reached s) (begun s (reached s) exception)

@@ -1,6 +1,8 @@
 -- Which sweep calls are usable: regular ones, and every call over a stack of the same place in which the live slots of the frames not
 -- yet passed are as they were. Assumes nothing.
+use mathlib.Core.Bool.{true, false}
 use mathlib.Core.Path.{_≡_, refl, _∙_}
+use Prim.Native.Nat.{ℕ, _<_}
 use native.Mathlib.Omega.{arith}
 use lib.ListN.{drop}
 use Rattle.mem.specs.Memory.{Region, size}
@@ -26,6 +28,21 @@ regular-usable m i u =
       accepted = i .accepted;
       same = λ e k f least most at. own-live m i f (from-number 0 (m .frames) k f (omega arith) at);
     }
+
+-- where no slot is asked for, any stack that opens will do: nothing is chosen, or the chosen frame has landed
+module _ (m : Machine) (u : Unwinding) (other : Region) (accepted : opens (lentBy (withStack m other)) ≡ true) where
+  pub unchosen-usable : u .chosen ≡ false → Usable m u (regular (withStack m other) u)
+  unchosen-usable e =
+      record {
+        stack = other;
+        is = refl;
+        accepted = accepted;
+        same = λ c. let z : _≡_ {A = ℕ} 0 1 = cc in absurd (omega arith);
+      }
+
+  pub finished-usable : u .«chosen_number» < u .number → Usable m u (regular (withStack m other) u)
+  finished-usable past =
+      record { stack = other; is = refl; accepted = accepted; same = λ e k f least most at. absurd (omega arith) }
 
 -- whether a stack opens depends on its place alone
 same-place : (m : Machine) (other : Region) → other .base ≡ m .stack .base → size other ≡ size (m .stack) →

@@ -12,7 +12,7 @@ to-resumed-requires : tie.Need-to-resumed-requires
 to-resumed-requires c κs = search needs
 
 returns : tie.Need-returns
-returns c = c .to-resumed .ensures ∙ ap resumed (c .before .resume .ensures)
+returns c = c .to-resumed .ensures ∙ ap resumed (c .before .resume .ensures .0)
 
 pub eko-resume-spec : {M : Type 1} → statement M
 eko-resume-spec = tie.close (tie.spec resume-requires to-resumed-requires returns)

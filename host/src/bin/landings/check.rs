@@ -1,12 +1,13 @@
-//! A throw and its resume calls by the library, against what the machine expects.
-use morthwyga::{Frame, Memory, PC_COLUMN, Raised, Regs, Resumed, Unwinding};
+//! A throw by the library with its resume calls, and its walk, against what the machine expects.
+use morthwyga::{Frame, Memory, PC_COLUMN, Raised, Regs};
 
-use crate::expected::{Expected, Landing};
+use crate::expected::Expected;
 use crate::figures::Figures;
-use crate::irregular;
 use crate::machine::{Machine, Throw};
 use crate::numbers::{File, Numbers, PC};
 use crate::random::Random;
+use crate::stack::hex;
+use crate::sweep::Sweep;
 
 /// What is not as expected.
 pub type Checked = Result<(), String>;
@@ -19,13 +20,14 @@ pub struct Check<'a> {
 }
 
 /// That two files agree on sp and the preserved registers.
-fn agree(numbers: &Numbers, ours: &Regs, file: &File) -> bool {
+pub fn agree(numbers: &Numbers, ours: &Regs, file: &File) -> bool {
     let same = |reg: &u16| numbers.value(&ours.r, *reg) == numbers.value(file, *reg);
     same(&numbers.sp) && numbers.preserved.iter().all(same)
 }
 
 impl Check<'_> {
-    fn memory(&self) -> Memory<'_> {
+    /// What the throw is lent.
+    pub fn memory(&self) -> Memory<'_> {
         let (section, machine) = (self.machine.section, self.machine);
         Memory { section: &section.bytes, section_base: section.base, stack: &machine.stack, stack_base: machine.stack_base }
     }
@@ -33,10 +35,6 @@ impl Check<'_> {
     /// The throw and all its resume calls as a request to `probe`.
     pub fn request(&self) -> String {
         let (memory, numbers) = (self.memory(), self.machine.numbers());
-        let hex = |bytes: &[u8]| match bytes {
-            [] => "-".to_string(),
-            _ => bytes.iter().map(|byte| format!("{byte:02x}")).collect(),
-        };
         let mut file = self.machine.registers;
         file[PC] = self.throw.pc;
         let columns = (0..PC).take(if numbers.pushes { 16 } else { PC }).chain([PC]);
@@ -54,41 +52,15 @@ impl Check<'_> {
         )
     }
 
-    /// The throw, every regular resume call up to the third finished, and irregular ones between.
+    /// The throw, and the resume calls after it; after two of three throws landing pads write to the stack.
     pub fn throw(&self, random: &mut Random, figures: &mut Figures) -> Checked {
-        let (memory, arch) = (self.memory(), self.machine.numbers().arch);
-        let regs = Regs { r: self.machine.registers };
-        let (answer, mut unwinding) = memory.raise(arch, regs, self.throw.pc, self.throw.interrupted, self.exception);
+        let (arch, regs) = (self.machine.numbers().arch, Regs { r: self.machine.registers });
+        let (answer, unwinding) = self.memory().raise(arch, regs, self.throw.pc, self.throw.interrupted, self.exception);
         if answer != Ok(self.expected.answer) {
             return Err(format!("the throw answers {answer:?}, not {:?}", self.expected.answer));
         }
-        for landing in &self.expected.landings {
-            irregular::calls(memory, arch, unwinding, random, figures)?;
-            unwinding = self.landing(landing, unwinding)?;
-        }
-        for _ in 0..3 {
-            irregular::calls(memory, arch, unwinding, random, figures)?;
-            match memory.resume(arch, unwinding) {
-                Ok(Resumed::Finished) => figures.finished += 1,
-                other => return Err(format!("not finished: {other:?}")),
-            }
-        }
-        Ok(())
-    }
-
-    /// One regular resume call, which gives the next landing.
-    fn landing(&self, landing: &Landing, unwinding: Unwinding) -> Result<Unwinding, String> {
-        let numbers = self.machine.numbers();
-        let answer = self.memory().resume(numbers.arch, unwinding);
-        let Ok(Resumed::Landing { number, regs, next }) = answer else {
-            return Err(format!("no landing of frame {}: {answer:?}", landing.number));
-        };
-        let told = (number, regs.r[PC_COLUMN], regs.r[0], regs.r[1]);
-        let due = (landing.number, landing.pc, self.exception, 0);
-        if told != due || !agree(numbers, &regs, &landing.file) {
-            return Err(format!("landing {told:x?} with {regs:x?}, not {due:x?} with {:x?}", landing.file));
-        }
-        Ok(next)
+        let written = !random.once_in(3);
+        Sweep::new(self, unwinding, written).run(random, figures)
     }
 
     /// The walk gives every open frame, and ends.

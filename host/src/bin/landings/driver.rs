@@ -16,7 +16,7 @@ pub struct Driver<'a, 'b> {
 pub fn fresh<'a>(section: &'a Section, random: &mut Random, frames: usize) -> Machine<'a> {
     let length = if random.once_in(20) { random.below(64) } else { 200 + 300 * frames + random.below(64) };
     let stack_base = stack_base(section, random, length);
-    let stack: Vec<u8> = (0..length.div_ceil(8)).flat_map(|_| random.word().to_le_bytes()).take(length).collect();
+    let stack = random.bytes(length);
     let mut registers: File = [0; 41];
     registers.iter_mut().for_each(|value| *value = random.value());
     let top = stack_base + length - random.below(3) * 8;
@@ -26,7 +26,7 @@ pub fn fresh<'a>(section: &'a Section, random: &mut Random, frames: usize) -> Ma
 }
 
 /// A base that shares no address with the section: close below or above it, or anywhere.
-fn stack_base(section: &Section, random: &mut Random, length: usize) -> usize {
+pub fn stack_base(section: &Section, random: &mut Random, length: usize) -> usize {
     let (first, end) = (section.base, section.base + section.bytes.len());
     loop {
         let base = match random.below(4) {

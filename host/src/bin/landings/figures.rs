@@ -10,6 +10,11 @@ pub struct Figures {
     /// Those whose pc is a sum that wraps.
     pub wrapped: usize,
     pub finished: usize,
+    /// Resume calls that were lent another stack than the throw.
+    pub overwritten: usize,
+    /// Landings of such calls, and those of them over a stack with another base or length.
+    pub overwritten_landings: usize,
+    pub resized_landings: usize,
     /// Irregular calls that were refused, and others, which do not count.
     pub irregular: usize,
     pub uncounted: usize,
@@ -43,7 +48,7 @@ impl Figures {
     }
 
     pub fn print(&self, name: &str) {
-        println!("{name}: {} throws, no difference", self.throws);
+        println!("{name}: {} throws, {} resume calls over an overwritten stack, no difference", self.throws, self.overwritten);
         let lines = [
             ("of them interrupts", self.interrupts),
             ("chosen", self.answers[6]),
@@ -53,6 +58,10 @@ impl Figures {
             ("of them at a pc that wraps", self.wrapped),
             ("most landings of a throw", self.most_landings),
             ("finished", self.finished),
+            ("resume calls over the throw's stack", self.landings + self.finished - self.overwritten),
+            ("resume calls over an overwritten stack", self.overwritten),
+            ("landings over an overwritten stack", self.overwritten_landings),
+            ("of them with another base or length", self.resized_landings),
             ("irregular calls refused", self.irregular),
             ("irregular calls not counted", self.uncounted),
             ("walks", self.walks),

@@ -1,5 +1,6 @@
 //! Document 01's call machine, written from the paper.
 use std::collections::BTreeSet;
+use std::ops::RangeInclusive;
 
 use crate::numbers::{File, Numbers, PC};
 use crate::section::Section;
@@ -55,6 +56,11 @@ pub struct Frame<'a> {
 impl Open {
     fn is_spilled(&self, reg: usize) -> bool {
         self.spilled.iter().any(|(r, _)| *r as usize == reg)
+    }
+
+    /// The addresses of its live slots.
+    fn live_slots(&self) -> impl Iterator<Item = usize> {
+        self.spilled.iter().map(|(_, slot)| self.cfa - 8 * *slot as usize)
     }
 }
 
@@ -176,6 +182,20 @@ impl<'a> Machine<'a> {
         let end = self.stack_base + self.stack.len();
         let inside = self.stack_base <= at && end - self.stack_base >= 8 && at <= end - 8;
         inside && self.live.range(at.saturating_sub(7)..=at + 7).next().is_none()
+    }
+
+    /// The addresses of the live slots of the frames with these numbers, in rising order.
+    pub fn live_slots(&self, numbers: RangeInclusive<usize>) -> Vec<usize> {
+        let frames = self.open.iter().rev().enumerate().filter(|(number, _)| numbers.contains(number));
+        let mut slots: Vec<usize> = frames.flat_map(|(_, frame)| frame.live_slots()).collect();
+        slots.sort_unstable();
+        slots
+    }
+
+    /// The 8 bytes of a live slot.
+    pub fn slot(&self, at: usize) -> &[u8] {
+        let from = at - self.stack_base;
+        &self.stack[from..from + 8]
     }
 
     fn put(&mut self, at: usize, value: usize) {

@@ -1,5 +1,6 @@
 //! `landings [THROWS [SEED]]`: random throws of document 01's call machine, unwound by the library. The machine, written here a
-//! second time from the paper, says what each throw and each resume call must answer (demand 3).
+//! second time from the paper, says what each throw and each resume call must answer (demand 3), also where landing pads have
+//! written to the stack between the calls.
 mod check;
 mod driver;
 mod expected;
@@ -8,6 +9,7 @@ mod function;
 mod irregular;
 mod machine;
 mod numbers;
+mod pad;
 mod program;
 mod random;
 #[allow(dead_code)]
@@ -15,7 +17,9 @@ mod random;
 mod raw;
 mod rows;
 mod section;
+mod stack;
 mod state;
+mod sweep;
 
 use std::process::ExitCode;
 

@@ -1,52 +1,14 @@
 //! Walks and throws through the static library, for x86-64.
-use morthwyga::{Arch, Failure, Frame, Memory, PC_COLUMN, Place, Raised, Regs, Resumed, Unwinding};
+mod common;
 
-const ARCH: Arch = Arch::X86_64;
-const SECTION: usize = 0x1000;
-const STACK: usize = 0x4000;
-const FIRST: usize = 0x9000;
-const EXCEPTION: usize = 77;
+use common::{ARCH, EXCEPTION, FIRST, STACK, lend, regs, ret, section, stack};
+use morthwyga::{Failure, Frame, Memory, PC_COLUMN, Place, Raised, Resumed, Unwinding};
 
 /// Programs with rows: entry state, then one row at offset 5, or none.
 const CLEANUP: &[u8] = &[0x00, 1, 5, 4 * 8];
 const CATCH: &[u8] = &[0x00, 1, 5, 4 * 9 + 1];
 const TERMINATE: &[u8] = &[0x00, 1, 5, 2];
 const PLAIN: &[u8] = &[0x00, 0];
-
-/// A chunk with a function of 16 bytes for each of these programs, from FIRST on.
-fn section(programs: &[&[u8]]) -> Vec<u8> {
-    let head = 16 + 12 * programs.len();
-    let length = (head + programs.concat().len()).next_multiple_of(4);
-    let mut words = vec![0x5755_4b45, 0x0001_0202, programs.len() as u32, length as u32];
-    let mut program = head;
-    for (i, bytes) in programs.iter().enumerate() {
-        let field = SECTION + 4 * words.len();
-        words.extend([(FIRST + 16 * i - field) as u32, 16, program as u32 | 1 << 31]);
-        program += bytes.len();
-    }
-    let mut bytes: Vec<u8> = words.into_iter().flat_map(u32::to_le_bytes).chain(programs.concat()).collect();
-    bytes.resize(length, 0);
-    bytes
-}
-
-/// The return address of the call in the i-th function.
-fn ret(i: usize) -> usize {
-    FIRST + 16 * i + 5
-}
-
-fn stack(words: &[usize]) -> Vec<u8> {
-    words.iter().flat_map(|word| word.to_le_bytes()).collect()
-}
-
-fn lend<'a>(section: &'a [u8], stack: &'a [u8]) -> Memory<'a> {
-    Memory { section, section_base: SECTION, stack, stack_base: STACK }
-}
-
-fn regs(sp: usize) -> Regs {
-    let mut regs = Regs { r: std::array::from_fn(|i| 100 + i) };
-    regs.r[7] = sp;
-    regs
-}
 
 fn raise(memory: Memory, interrupted: bool) -> (Result<Raised, Failure>, Unwinding) {
     memory.raise(ARCH, regs(STACK), ret(0), interrupted, EXCEPTION)

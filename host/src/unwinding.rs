@@ -124,7 +124,17 @@ impl Memory<'_> {
         (answered(a.status, Raised::of(&a)), a.unwinding)
     }
 
-    /// The next landing of an unwinding, in the memory that the throw was lent. After a refusal the unwinding is as it was.
+    /// The next landing of an unwinding. After a refusal the unwinding is as it was.
+    ///
+    /// Every call gets the throw's architecture; its section, the same bytes at the same address; the unwinding that
+    /// [`Memory::raise`] or, after it, the last landing returned; and a copy of the stack taken at the throw, or the live stack,
+    /// to which landing pads may have written. They may write everything but the slots in which the frames not yet passed, from
+    /// the unwinding's `number` up to the chosen one, have saved their callers' registers and return addresses: these lie in
+    /// what is lent, at their addresses, and hold what they held at the throw. A frame that has landed has been passed, so its
+    /// pad may use its own slots. Once the chosen frame has landed, or where none was chosen, any stack that the opening rule
+    /// accepts will do.
+    ///
+    /// Make the slice of a live stack anew for each call: pads write to what it borrows.
     pub fn resume(self, arch: Arch, unwinding: Unwinding) -> Result<Resumed, Failure> {
         let a = lend!(self, eko_resume, arch as u8, unwinding);
         let landing = Resumed::Landing { number: a.number, regs: a.regs, next: a.unwinding };

@@ -1,18 +1,16 @@
 -- Demand 3 with stores between the calls: each call is usable. Assumes nothing.
-use mathlib.Core.Bool.{true, _&&_}
+use mathlib.Core.Bool.{true}
 use mathlib.Core.List.{List, [], _∷_}
 use mathlib.Core.Path.{_≡_, refl, sym, _∙_, ap, subst}
-use Prim.Native.Nat.{ℕ, suc}
+use Prim.Native.Nat.{ℕ, suc, _-_}
 use native.Mathlib.Omega.{arith}
 use lib.ListN.{length, drop}
 use Rattle.failure.specs.Outcome.{Answer}
 use Rattle.mem.specs.Memory.{Region}
 use Rattle.mem.specs.Opening.{opens}
-use Rattle.mem.proofs.Tests.{both}
-use Rattle.arch.specs.Arch.{Arch}
 use Rattle.model.specs.declared.Unwinding.{Unwinding}
 use Rattle.model.specs.Unwinding.{resumed}
-use Rattle.model.specs.Machine.{Open, Machine, lentBy, inside, clear, written, archOf, Tables, lending}
+use Rattle.model.specs.Machine.{Machine, archOf, lentBy}
 use Rattle.model.specs.Event.{steps}
 use Rattle.model.specs.Throw.{Throw, throwAllowed}
 use Rattle.model.specs.Sound.{Sound, SoundTables}
@@ -20,30 +18,13 @@ use Rattle.model.specs.Expected.{LandingPad, Compared, due, firstOf}
 use Rattle.model.specs.OtherStack.{withStack}
 use Rattle.model.specs.Demand.{answerOf, regular, current, currentBy, compared, answers, unwindingOf}
 use Rattle.model.specs.LiveStack.{Usable}
-use Rattle.model.specs.Between.{Store, stored, spares, callsBetween, SparedBetween, EveryLandingBetween, Demand3Between}
+use Rattle.model.specs.Between.{Store, storedAll, callsBetween, SparedBetween, EveryLandingBetween, Demand3Between}
 use Rattle.model.proofs.Chain.{AllLive, Inv}
-use Rattle.model.proofs.Slots.{written-live, written-lent}
+use Rattle.model.proofs.Stored.{all-live, all-lent}
 use Rattle.model.proofs.Live.{live-at, live-in, live-from, from-number}
 use Rattle.model.proofs.Calls.{Due, Serves, serves}
 use Rattle.model.proofs.Steps.{steps-inv}
 use Rattle.model.proofs.Theorem.{walks, starts}
-
--- stores that spare live slots leave them, and leave the stack in its place
-stored-live : (a : Arch) (fs : List Open) (r : Region) (ws : List Store) → spares r fs ws ≡ true → AllLive a r fs → AllLive a (stored r ws) fs
-stored-live a fs r [] h live = live
-stored-live a fs r (w ∷ ws) h live =
-    let (front, rest) = both (inside r (w .address) && clear (w .address) fs) (spares (written r (w .address) (w .value)) fs ws) h in
-    let (within, apart) = both (inside r (w .address)) (clear (w .address) fs) front in
-    stored-live a fs (written r (w .address) (w .value)) ws rest (written-live a r (w .address) (w .value) within fs apart live)
-
-stored-opens : (ts : Tables) (fs : List Open) (r : Region) (ws : List Store) → spares r fs ws ≡ true →
-    opens (lending ts r) ≡ true → opens (lending ts (stored r ws)) ≡ true
-stored-opens ts fs r [] h accepted = accepted
-stored-opens ts fs r (w ∷ ws) h accepted =
-    let (front, rest) = both (inside r (w .address) && clear (w .address) fs) (spares (written r (w .address) (w .value)) fs ws) h in
-    let (within, apart) = both (inside r (w .address)) (clear (w .address) fs) front in
-    stored-opens ts fs (written r (w .address) (w .value)) ws rest
-    (written-lent ts r (w .address) (w .value) within accepted)
 
 module _ (m : Machine) (i : Inv m) (tables : SoundTables (m .tables)) where
   -- a stack that has the kept values in the live slots of the frames not yet passed
@@ -85,14 +66,14 @@ module _ (m : Machine) (i : Inv m) (tables : SoundTables (m .tables)) where
   answered [] u r ls d accepted live spared = refl
   answered (ws ∷ wss) u r ls d accepted live spared =
       let fs = drop (u .number) (m .frames) in
-      let accepted′ = stored-opens (m .tables) fs r ws (spared .0) accepted in
-      let live′ = stored-live (archOf m) fs r ws (spared .0) live in
-      let s : Serves m u ls (regular (withStack m (stored r ws)) u) =
-      serves m (i .known) (i .live) (walks m i tables) u ls (regular (withStack m (stored r ws)) u)
-      (live-usable u (stored r ws) accepted′ live′) d in
-      served-first u (stored r ws) ls wss s (spared .1)
-      (answered wss (resumed u (Answer (s .answer))) (stored r ws) (s .rest) (s .after) accepted′
-      (live-from (archOf m) (stored r ws) (m .frames) (u .number) (resumed u (Answer (s .answer)) .number) (s .passes) live′))
+      let accepted′ = all-lent (m .tables) fs r ws (spared .0) accepted in
+      let live′ = all-live (archOf m) fs r ws (spared .0) live in
+      let s : Serves m u ls (regular (withStack m (storedAll r ws)) u) =
+      serves m (i .known) (i .live) (walks m i tables) u ls (regular (withStack m (storedAll r ws)) u)
+      (live-usable u (storedAll r ws) accepted′ live′) d in
+      served-first u (storedAll r ws) ls wss s (spared .1)
+      (answered wss (resumed u (Answer (s .answer))) (storedAll r ws) (s .rest) (s .after) accepted′
+      (live-from (archOf m) (storedAll r ws) (m .frames) (u .number) (resumed u (Answer (s .answer)) .number) (s .passes) live′))
 
 -- every machine that the invariant holds of
 pub every-landing-between :

@@ -37,5 +37,6 @@ pub mod FirstRow
 pub mod Exactly
 pub mod ValidRows
 pub mod Corollaries
+pub mod Stored
 pub mod Between
 pub mod Promised

@@ -28,6 +28,21 @@ pub either : (s t : Bool) → (s || t) ≡ true → (s ≡ true) ⊎ (t ≡ true
 either true t e = inl refl
 either false t e = inr e
 
+-- ranges that share no address: one is empty, or one ends before the other begins
+pub apart-cases : (x n y : ℕ) → apart x n y 8 ≡ true → (n ≡ 0) ⊎ ((x + n ≤ y) ⊎ (y + 8 ≤ x))
+unfolding apart
+apart-cases x n y e =
+    ⊎-elim
+    (λ p. ⊎-elim
+    (λ q. ⊎-elim
+    (λ z. inl (eqb-true n 0 z))
+    (λ z. let none = eqb-true 8 0 z in absurd (omega arith))
+    (either (eqb n 0) (eqb 8 0) q))
+    (λ l. inr (inl (leb-true (x + n) y l)))
+    (either (eqb n 0 || eqb 8 0) (leb (x + n) y) p))
+    (λ l. inr (inr (leb-true (y + 8) x l)))
+    (either (eqb n 0 || eqb 8 0 || leb (x + n) y) (leb (y + 8) x) e)
+
 -- where two ranges share no address, at most one of them holds 8 bytes
 pub not-both :
     (base size base′ size′ x : ℕ) → apart base size base′ size′ ≡ true → holds base′ size′ x 8 ≡ true → holds base size x 8 ≡ false

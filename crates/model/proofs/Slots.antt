@@ -108,20 +108,24 @@ written-live a r x v within (f ∷ fs) e live =
     let slot = clear-slot x (f .cfa) (f .spilled) here in
     (λ p i. written-slot a r x v within f p (slot p i) (live .0 p i), written-live a r x v within fs rest (live .1))
 
--- it shares no address with others, if it did not before
-written-away : (r : Region) (x v : ℕ) → inside r x ≡ true → (more : Memory) → apartFrom (written r x v) more ≡ apartFrom r more
-unfolding written
-written-away r x v within [] = refl
-written-away r x v within (s ∷ more) = rw (written-size r x v within, written-away r x v within more)
+-- whether a stack opens depends on its place alone
+placed-away : (r other : Region) → other .base ≡ r .base → size other ≡ size r → (more : Memory) → apartFrom other more ≡ apartFrom r more
+placed-away r other base long [] = refl
+placed-away r other base long (s ∷ more) = rw (placed-away r other base long more, base, long)
 
--- an accepted opening stays accepted
-written-opens :
-    (s r : Region) (x v : ℕ) (more : Memory) → inside r x ≡ true → opens (record { regions = s ∷ r ∷ more }) ≡ true →
-    opens (record { regions = s ∷ written r x v ∷ more }) ≡ true
-unfolding opens written
-written-opens s r x v more within h = rw (written-size r x v within, written-away r x v within more) h
+placed-opens :
+    (s r other : Region) (more : Memory) → other .base ≡ r .base → size other ≡ size r →
+    opens (record { regions = s ∷ r ∷ more }) ≡ true → opens (record { regions = s ∷ other ∷ more }) ≡ true
+unfolding opens
+placed-opens s r other more base long h = rw (placed-away r other base long more, base, long) h
 
--- so does what is lent with the tables
+pub placed-lent :
+    (ts : Tables) (r other : Region) → other .base ≡ r .base → size other ≡ size r → opens (lending ts r) ≡ true →
+    opens (lending ts other) ≡ true
+placed-lent ts r other base long h = placed-opens (ts .section) r other [] base long h
+
+-- so an accepted opening stays accepted
 pub written-lent :
     (ts : Tables) (r : Region) (x v : ℕ) → inside r x ≡ true → opens (lending ts r) ≡ true → opens (lending ts (written r x v)) ≡ true
-written-lent ts r x v within h = written-opens (ts .section) r x v [] within h
+unfolding written
+written-lent ts r x v within h = placed-lent ts r (written r x v) refl (written-size r x v within) h

@@ -1,7 +1,7 @@
--- Laws of `put`: a number written into bytes stands where it was put, and all else is as it was. Assumes nothing.
+-- Laws of `replaced` and `put`: what is written into bytes stands where it was put, and all else is as it was. Assumes nothing.
 use mathlib.Core.Path.{_≡_, sym, _∙_, ap}
-use mathlib.Core.Logic.{_⊎_, ⊎-elim}
-use mathlib.Core.List.{List, _++_, append-assoc}
+use mathlib.Core.Logic.{_⊎_, inl, inr}
+use mathlib.Core.List.{List, [], _∷_, _++_, append-assoc}
 use Prim.Native.Nat.{ℕ, zero, suc, _+_, _-_, _/_, _^_, _≤_, _<_}
 use native.Mathlib.Nat.{mod-add-div, pow-suc}
 use native.Mathlib.Omega.{arith}
@@ -9,7 +9,7 @@ use lib.ListN.{length, take, drop, length-take, length-drop, length-append, take
 use lib.Seq.{length-take-le, take-append-le, drop-append-le, take-append-seam, drop-at, drop-drop}
 use Rattle.mem.specs.Word.{littleEndian}
 use Rattle.lookup.specs.Field.{word}
-use Rattle.model.specs.Machine.{bytesFor, put}
+use Rattle.model.specs.Machine.{bytesFor, replaced, put}
 
 -- n bytes of the first part stand there whatever comes after it
 first-part : (n j : ℕ) (p q : List ℕ) → j + n ≤ length p → take n (drop j (p ++ q)) ≡ take n (drop j p)
@@ -18,13 +18,9 @@ first-part n j p q h =
     let outer : j ≤ length p = omega arith in
     rw (drop-append-le j p q outer, take-append-le n (drop j p) q inner)
 
--- bytes in the place of as many others, from offset k on
-replaced : List ℕ → ℕ → List ℕ → List ℕ
-replaced bytes k new = take k bytes ++ (new ++ drop (k + length new) bytes)
-
 module _ (bytes new : List ℕ) (k : ℕ) (fits : k + length new ≤ length bytes) where
   -- there are as many bytes
-  replaced-length : length (replaced bytes k new) ≡ length bytes
+  pub replaced-length : length (replaced bytes k new) ≡ length bytes
   unfolding replaced
   replaced-length = simp (length-append, length-take, length-drop) (omega arith)
 
@@ -63,6 +59,24 @@ module _ (bytes new : List ℕ) (k : ℕ) (fits : k + length new ≤ length byte
       ∙ drop-drop (j - end) end bytes
       ∙ ap (λ (x : ℕ). drop x bytes) (sym split)
 
+-- no bytes change nothing
+replaced-none : (bytes : List ℕ) (k : ℕ) → replaced bytes k [] ≡ bytes
+unfolding replaced
+replaced-none bytes k =
+    let same : k + 0 ≡ k = omega arith in
+    ap (λ (n : ℕ). take k bytes ++ drop n bytes) same ∙ take-append-drop k bytes
+
+-- 8 bytes that lie apart are as they were
+pub replaced-apart :
+    (bytes new : List ℕ) (k j : ℕ) → k + length new ≤ length bytes → (length new ≡ 0) ⊎ ((j + 8 ≤ k) ⊎ (k + length new ≤ j)) →
+    word (replaced bytes k new) j 8 ≡ word bytes j 8
+unfolding word
+replaced-apart bytes [] k j fits away = ap (λ (l : List ℕ). littleEndian (take 8 (drop j l))) (replaced-none bytes k)
+replaced-apart bytes (b ∷ new) k j fits (inl none) = absurd (omega arith)
+replaced-apart bytes (b ∷ new) k j fits (inr (inl l)) = ap littleEndian (replaced-before bytes (b ∷ new) k fits 8 j l)
+replaced-apart bytes (b ∷ new) k j fits (inr (inr g)) =
+    ap (λ (l : List ℕ). littleEndian (take 8 l)) (replaced-after bytes (b ∷ new) k fits j g)
+
 -- the n bytes of a number that fits them stand for it
 number-back : (n v : ℕ) → v < 256 ^ n → littleEndian (bytesFor n v) ≡ v
 number-back zero v h = omega arith
@@ -72,19 +86,16 @@ number-back (suc n) v h =
 
 -- a put keeps how many bytes there are
 pub put-length : (bytes : List ℕ) (k v : ℕ) → k + 8 ≤ length bytes → length (put bytes k v) ≡ length bytes
-unfolding put replaced
+unfolding put
 put-length bytes k v h = replaced-length bytes (bytesFor 8 v) k h
 
 -- the number stands where it was put
 pub put-there : (bytes : List ℕ) (k v : ℕ) → k + 8 ≤ length bytes → v < 2 ^ 64 → word (put bytes k v) k 8 ≡ v
-unfolding put word replaced
+unfolding put word
 put-there bytes k v h l = ap littleEndian (replaced-there bytes (bytesFor 8 v) k h) ∙ number-back 8 v l
 
 -- every other place is as it was
 pub put-apart :
     (bytes : List ℕ) (k v j : ℕ) → k + 8 ≤ length bytes → (j + 8 ≤ k) ⊎ (k + 8 ≤ j) → word (put bytes k v) j 8 ≡ word bytes j 8
-unfolding put word replaced
-put-apart bytes k v j h =
-    ⊎-elim
-    (λ (l : j + 8 ≤ k). ap littleEndian (replaced-before bytes (bytesFor 8 v) k h 8 j l))
-    (λ (g : k + 8 ≤ j). ap (λ (l : List ℕ). littleEndian (take 8 l)) (replaced-after bytes (bytesFor 8 v) k h j g))
+unfolding put word
+put-apart bytes k v j h away = replaced-apart bytes (bytesFor 8 v) k j h (inr away)

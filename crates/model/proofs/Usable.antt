@@ -1,7 +1,7 @@
 -- Which sweep calls are usable: regular ones, and every call over a stack of the same place in which the live slots of the frames not
 -- yet passed are as they were. Assumes nothing.
 use mathlib.Core.Bool.{true, false}
-use mathlib.Core.Path.{_≡_, refl, _∙_}
+use mathlib.Core.Path.{_≡_, refl}
 use Prim.Native.Nat.{ℕ, _<_}
 use native.Mathlib.Omega.{arith}
 use lib.ListN.{drop}
@@ -13,6 +13,7 @@ use Rattle.model.specs.OtherStack.{SameLive, withStack}
 use Rattle.model.specs.Demand.{regular}
 use Rattle.model.specs.LiveStack.{Usable}
 use Rattle.model.proofs.Chain.{Inv}
+use Rattle.model.proofs.Slots.{placed-lent}
 use Rattle.model.proofs.Live.{live-in, from-number}
 
 -- each live slot is the same in the machine's own stack
@@ -44,12 +45,6 @@ module _ (m : Machine) (u : Unwinding) (other : Region) (accepted : opens (lentB
   finished-usable past =
       record { stack = other; is = refl; accepted = accepted; same = λ e k f least most at. absurd (omega arith) }
 
--- whether a stack opens depends on its place alone
-same-place : (m : Machine) (other : Region) → other .base ≡ m .stack .base → size other ≡ size (m .stack) →
-    opens (lentBy (withStack m other)) ≡ opens (lentBy m)
-unfolding opens
-same-place m other base long = rw (base, long)
-
 -- a call is usable over a stack of the same base and length in which the live slots of the frames not yet passed are the same
 pub placed-usable :
     (m : Machine) → Inv m → (u : Unwinding) (other : Region) → other .base ≡ m .stack .base → size other ≡ size (m .stack) →
@@ -58,6 +53,6 @@ placed-usable m i u other base long same =
     record {
       stack = other;
       is = refl;
-      accepted = same-place m other base long ∙ i .accepted;
+      accepted = placed-lent (m .tables) (m .stack) other base long (i .accepted);
       same = λ e k f least most at. same f (from-number (u .number) (m .frames) k f least at);
     }

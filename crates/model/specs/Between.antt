@@ -3,11 +3,14 @@
 use mathlib.Core.Bool.{Bool, true, _&&_}
 use mathlib.Core.List.{List, [], _∷_}
 use mathlib.Core.Path.{_≡_}
-use Prim.Native.Nat.{ℕ}
+use Prim.Native.Nat.{ℕ, _-_}
 use lib.ListN.{length, drop}
-use Rattle.mem.specs.Memory.{Region}
+use Rattle.mem.specs.Memory.{Region, size}
+use Rattle.mem.specs.Opening.{apart}
+use Rattle.mem.specs.Place.{holds}
+use Rattle.frame.specs.Layout.{Pair}
 use Rattle.model.specs.declared.Unwinding.{Unwinding}
-use Rattle.model.specs.Machine.{Open, Machine, Fresh, archOf, inside, clear, written}
+use Rattle.model.specs.Machine.{Open, Machine, Fresh, archOf, address, replaced}
 use Rattle.model.specs.Event.{Event, steps}
 use Rattle.model.specs.Throw.{Throw, throwAllowed}
 use Rattle.model.specs.Sound.{Sound}
@@ -15,35 +18,52 @@ use Rattle.model.specs.Expected.{due, firstOf}
 use Rattle.model.specs.OtherStack.{withStack}
 use Rattle.model.specs.Demand.{ResumeCall, regular, current, answers, unwindingOf}
 
--- a number that is written to 8 bytes of the stack
+-- bytes that are written at an address
 pub record Store : Type 0 where
   pub address : ℕ
-  pub value : ℕ
+  pub bytes : List ℕ
+
+-- the stack after a store
+unfoldable pub stored : Region → Store → Region
+stored r w = record { base = r .base; bytes = replaced (r .bytes) (w .address - r .base) (w .bytes) }
+
+-- a store lies in the stack
+unfoldable pub fitsIn : Region → Store → Bool
+fitsIn r w = holds (r .base) (size r) (w .address) (length (w .bytes))
+
+-- a store shares no address with the slots of these pairs below a CFA
+abbrev pub sparesOf : Store → ℕ → List Pair → Bool
+sparesOf w cfa [] = true
+sparesOf w cfa (p ∷ ps) = apart (w .address) (length (w .bytes)) (address cfa (p .slot)) 8 && sparesOf w cfa ps
+
+-- nor with any live slot of these frames
+abbrev pub spares : Store → List Open → Bool
+spares w [] = true
+spares w (f ∷ fs) = sparesOf w (f .cfa) (f .spilled) && spares w fs
 
 -- the stack after stores
-abbrev pub stored : Region → List Store → Region
-stored r [] = r
-stored r (w ∷ ws) = stored (written r (w .address) (w .value)) ws
+abbrev pub storedAll : Region → List Store → Region
+storedAll r [] = r
+storedAll r (w ∷ ws) = storedAll (stored r w) ws
 
--- each store goes to 8 bytes of the stack that meet no live slot of these frames
-abbrev pub spares : Region → List Open → List Store → Bool
-spares r fs [] = true
-spares r fs (w ∷ ws) =
-    inside r (w .address) && clear (w .address) fs && spares (written r (w .address) (w .value)) fs ws
+-- each of them lies in the stack and spares the live slots of these frames
+abbrev pub sparesAll : Region → List Open → List Store → Bool
+sparesAll r fs [] = true
+sparesAll r fs (w ∷ ws) = fitsIn r w && spares w fs && sparesAll (stored r w) fs ws
 
 -- the sweep calls of a host that lends the stack as it is, with these stores before each
 abbrev pub callsBetween : Machine → Unwinding → Region → List (List Store) → List ResumeCall
 callsBetween m u r [] = []
 callsBetween m u r (ws ∷ wss) =
-    regular (withStack m (stored r ws)) u
-    ∷ callsBetween m (current u (regular (withStack m (stored r ws)) u)) (stored r ws) wss
+    regular (withStack m (storedAll r ws)) u
+    ∷ callsBetween m (current u (regular (withStack m (storedAll r ws)) u)) (storedAll r ws) wss
 
 -- each of those stores spares the live slots of the frames that are not yet passed by then
 abbrev pub SparedBetween : Machine → Unwinding → Region → List (List Store) → Type 0
 SparedBetween m u r [] = Unit
 SparedBetween m u r (ws ∷ wss) =
-    (spares r (drop (u .number) (m .frames)) ws ≡ true)
-    × SparedBetween m (current u (regular (withStack m (stored r ws)) u)) (stored r ws) wss
+    (sparesAll r (drop (u .number) (m .frames)) ws ≡ true)
+    × SparedBetween m (current u (regular (withStack m (storedAll r ws)) u)) (storedAll r ws) wss
 
 -- after a throw, with whatever stores between the calls, from the stack of the throw on: every call answers, and the answers are the
 -- landings due, in order, then finished again and again

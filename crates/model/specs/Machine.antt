@@ -118,9 +118,13 @@ abbrev pub bytesFor : ℕ → ℕ → List ℕ
 bytesFor zero v = []
 bytesFor (suc n) v = v % 256 ∷ bytesFor n (v / 256)
 
+-- the bytes with new ones in the place of as many from offset k on
+unfoldable pub replaced : List ℕ → ℕ → List ℕ → List ℕ
+replaced bytes k new = take k bytes ++ (new ++ drop (k + length new) bytes)
+
 -- the bytes with the 8 from offset k on set to those of a number
 unfoldable pub put : List ℕ → ℕ → ℕ → List ℕ
-put bytes k v = take k bytes ++ (bytesFor 8 v ++ drop (k + 8) bytes)
+put bytes k v = replaced bytes k (bytesFor 8 v)
 
 -- the region with a number written at an address
 unfoldable pub written : Region → ℕ → ℕ → Region

@@ -37,18 +37,19 @@ use Rattle.model.specs.FrameStep.{nextInterrupted, find, callerFile, notAdvanci
 use Rattle.model.specs.Search.{search}
 use Rattle.model.specs.Cleanup.{installPad, clean}
 use Rattle.model.specs.Unwinding.{opened, raise, resume}
-use Rattle.model.specs.Machine.{callerInterrupted, Fresh, column, isRegister, value, inside, meet, put, written}
+use Rattle.model.specs.Machine.{callerInterrupted, Fresh, column, isRegister, value, inside, meet, replaced, put, written}
 use Rattle.model.specs.Described.{layoutAt, samePairs, goodFp, fits, described}
 use Rattle.model.specs.Event.{pushes, calling, keptBy, newFrame, notSpNorPc, callAllowed, entered, spillAllowed, changeAllowed, reloadAllowed, writeAllowed}
 use Rattle.model.specs.Throw.{throwAllowed, rows1, rows2, rowsIn, rowOf}
 use Rattle.model.specs.Sound.{wholeTable, goodTable, goodFrame}
 use Rattle.model.specs.Expected.{padOf, outcome, due}
 use Rattle.model.specs.Demand.{answerOf, current, raisedBy, unwindingOf}
+use Rattle.model.specs.Between.{stored, fitsIn}
 use Rattle.runs.specs.Scenario.{Holds, labelsRight}
-use Rattle.runs.specs.Overwritten.{HoldsOver}
+use Rattle.runs.specs.Overwritten.{HoldsOver, HoldsBetween}
 use Rattle.runs.specs.Unusable.{ComeTo, attempts, found, caughtLow, attemptsLow, foundLow}
 use Rattle.runs.proofs.Runs.{fresh-tested, holds-reported}
-use Rattle.runs.proofs.Overwritten.{over-reported}
+use Rattle.runs.proofs.Overwritten.{over-reported, between-holds}
 use Rattle.runs.specs.Aarch64 as Aarch64
 use Rattle.runs.specs.X86 as X86
 
@@ -63,7 +64,7 @@ x86-fresh = fresh-tested X86.start refl refl refl refl refl refl
 
 -- every scenario holds
 pub aarch64-scenarios : Holds Aarch64.caught × Holds Aarch64.terminated × Holds Aarch64.uncaught × Holds Aarch64.atEntry
-unfolding bounded apart opens Place.holds bytesAt load byteAt ulebAt numbers isKnown columnOf get set overfull entry save formOf decode frameRegs follow act run savedPairs fpPair raSlot badFp loadSlot applyAt apply pastTable leafCfa fpCfa spCfa frameCfa returnAddress setReturn setFrame setCaller stepAt Step.step readAs passes valid checked entryAt leftBreaks rightBreaks judged handler nextDelta matched handler2 rowsOf word stride chunkAt faulty headAt startAt endAt addressOf handlersOf recordAt recordAt2 recordOf holds badRecord chunksFrom chunks records halve leftMeets rightMeets settle Lookup.search inRange searchIn lookup soundTest rowless rowAfter installed searchedCode Reason.rowOf callerFile notAdvancing nextInterrupted find past frameStep search installPad clean opened raise resume callerInterrupted column isRegister value inside meet put written layoutAt samePairs goodFp fits described pushes calling keptBy newFrame notSpNorPc callAllowed entered spillAllowed changeAllowed reloadAllowed writeAllowed throwAllowed rows1 rows2 rowsIn rowOf wholeTable goodTable goodFrame padOf outcome due answerOf current raisedBy unwindingOf
+unfolding bounded apart opens Place.holds bytesAt load byteAt ulebAt numbers isKnown columnOf get set overfull entry save formOf decode frameRegs follow act run savedPairs fpPair raSlot badFp loadSlot applyAt apply pastTable leafCfa fpCfa spCfa frameCfa returnAddress setReturn setFrame setCaller stepAt Step.step readAs passes valid checked entryAt leftBreaks rightBreaks judged handler nextDelta matched handler2 rowsOf word stride chunkAt faulty headAt startAt endAt addressOf handlersOf recordAt recordAt2 recordOf holds badRecord chunksFrom chunks records halve leftMeets rightMeets settle Lookup.search inRange searchIn lookup soundTest rowless rowAfter installed searchedCode Reason.rowOf callerFile notAdvancing nextInterrupted find past frameStep search installPad clean opened raise resume callerInterrupted column isRegister value inside meet replaced put written layoutAt samePairs goodFp fits described pushes calling keptBy newFrame notSpNorPc callAllowed entered spillAllowed changeAllowed reloadAllowed writeAllowed throwAllowed rows1 rows2 rowsIn rowOf wholeTable goodTable goodFrame padOf outcome due answerOf current raisedBy unwindingOf
 aarch64-scenarios = (
   holds-reported Aarch64.caught aarch64-fresh refl (λ exception. refl),
   holds-reported Aarch64.terminated aarch64-fresh refl (λ exception. refl),
@@ -72,7 +73,7 @@ aarch64-scenarios = (
 )
 
 pub x86-scenarios : Holds X86.caught × Holds X86.terminated × Holds X86.uncaught × Holds X86.inLeaf
-unfolding bounded apart opens Place.holds bytesAt load byteAt ulebAt numbers isKnown columnOf get set overfull entry save formOf decode frameRegs follow act run savedPairs fpPair raSlot badFp loadSlot applyAt apply pastTable leafCfa fpCfa spCfa frameCfa returnAddress setReturn setFrame setCaller stepAt Step.step readAs passes valid checked entryAt leftBreaks rightBreaks judged handler nextDelta matched handler2 rowsOf word stride chunkAt faulty headAt startAt endAt addressOf handlersOf recordAt recordAt2 recordOf holds badRecord chunksFrom chunks records halve leftMeets rightMeets settle Lookup.search inRange searchIn lookup soundTest rowless rowAfter installed searchedCode Reason.rowOf callerFile notAdvancing nextInterrupted find past frameStep search installPad clean opened raise resume callerInterrupted column isRegister value inside meet put written layoutAt samePairs goodFp fits described pushes calling keptBy newFrame notSpNorPc callAllowed entered spillAllowed changeAllowed reloadAllowed writeAllowed throwAllowed rows1 rows2 rowsIn rowOf wholeTable goodTable goodFrame padOf outcome due answerOf current raisedBy unwindingOf
+unfolding bounded apart opens Place.holds bytesAt load byteAt ulebAt numbers isKnown columnOf get set overfull entry save formOf decode frameRegs follow act run savedPairs fpPair raSlot badFp loadSlot applyAt apply pastTable leafCfa fpCfa spCfa frameCfa returnAddress setReturn setFrame setCaller stepAt Step.step readAs passes valid checked entryAt leftBreaks rightBreaks judged handler nextDelta matched handler2 rowsOf word stride chunkAt faulty headAt startAt endAt addressOf handlersOf recordAt recordAt2 recordOf holds badRecord chunksFrom chunks records halve leftMeets rightMeets settle Lookup.search inRange searchIn lookup soundTest rowless rowAfter installed searchedCode Reason.rowOf callerFile notAdvancing nextInterrupted find past frameStep search installPad clean opened raise resume callerInterrupted column isRegister value inside meet replaced put written layoutAt samePairs goodFp fits described pushes calling keptBy newFrame notSpNorPc callAllowed entered spillAllowed changeAllowed reloadAllowed writeAllowed throwAllowed rows1 rows2 rowsIn rowOf wholeTable goodTable goodFrame padOf outcome due answerOf current raisedBy unwindingOf
 x86-scenarios = (
   holds-reported X86.caught x86-fresh refl (λ exception. refl),
   holds-reported X86.terminated x86-fresh refl (λ exception. refl),
@@ -82,7 +83,7 @@ x86-scenarios = (
 
 -- and the two with version 1 words of the other kind
 pub leaf-scenarios : Holds Aarch64.inLeaf × Holds X86.overUnlinked
-unfolding bounded apart opens Place.holds bytesAt load byteAt ulebAt numbers isKnown columnOf get set overfull entry save formOf decode frameRegs follow act run savedPairs fpPair raSlot badFp loadSlot applyAt apply pastTable leafCfa fpCfa spCfa frameCfa returnAddress setReturn setFrame setCaller stepAt Step.step readAs passes valid checked entryAt leftBreaks rightBreaks judged handler nextDelta matched handler2 rowsOf word stride chunkAt faulty headAt startAt endAt addressOf handlersOf recordAt recordAt2 recordOf holds badRecord chunksFrom chunks records halve leftMeets rightMeets settle Lookup.search inRange searchIn lookup soundTest rowless rowAfter installed searchedCode Reason.rowOf callerFile notAdvancing nextInterrupted find past frameStep search installPad clean opened raise resume callerInterrupted column isRegister value inside meet put written layoutAt samePairs goodFp fits described pushes calling keptBy newFrame notSpNorPc callAllowed entered spillAllowed changeAllowed reloadAllowed writeAllowed throwAllowed rows1 rows2 rowsIn rowOf wholeTable goodTable goodFrame padOf outcome due answerOf current raisedBy unwindingOf
+unfolding bounded apart opens Place.holds bytesAt load byteAt ulebAt numbers isKnown columnOf get set overfull entry save formOf decode frameRegs follow act run savedPairs fpPair raSlot badFp loadSlot applyAt apply pastTable leafCfa fpCfa spCfa frameCfa returnAddress setReturn setFrame setCaller stepAt Step.step readAs passes valid checked entryAt leftBreaks rightBreaks judged handler nextDelta matched handler2 rowsOf word stride chunkAt faulty headAt startAt endAt addressOf handlersOf recordAt recordAt2 recordOf holds badRecord chunksFrom chunks records halve leftMeets rightMeets settle Lookup.search inRange searchIn lookup soundTest rowless rowAfter installed searchedCode Reason.rowOf callerFile notAdvancing nextInterrupted find past frameStep search installPad clean opened raise resume callerInterrupted column isRegister value inside meet replaced put written layoutAt samePairs goodFp fits described pushes calling keptBy newFrame notSpNorPc callAllowed entered spillAllowed changeAllowed reloadAllowed writeAllowed throwAllowed rows1 rows2 rowsIn rowOf wholeTable goodTable goodFrame padOf outcome due answerOf current raisedBy unwindingOf
 leaf-scenarios = (
   holds-reported Aarch64.inLeaf aarch64-fresh refl (λ exception. refl),
   holds-reported X86.overUnlinked x86-fresh refl (λ exception. refl),
@@ -105,7 +106,7 @@ pub overwritten-scenarios :
     (false ∷ false ∷ false ∷ false ∷ true ∷ []) ∷ [])
     × ComeTo X86.caught attempts found
     × ComeTo caughtLow attemptsLow foundLow
-unfolding bounded apart opens Place.holds bytesAt load byteAt ulebAt numbers isKnown columnOf get set overfull entry save formOf decode frameRegs follow act run savedPairs fpPair raSlot badFp loadSlot applyAt apply pastTable leafCfa fpCfa spCfa frameCfa returnAddress setReturn setFrame setCaller stepAt Step.step readAs passes valid checked entryAt leftBreaks rightBreaks judged handler nextDelta matched handler2 rowsOf word stride chunkAt faulty headAt startAt endAt addressOf handlersOf recordAt recordAt2 recordOf holds badRecord chunksFrom chunks records halve leftMeets rightMeets settle Lookup.search inRange searchIn lookup soundTest rowless rowAfter installed searchedCode Reason.rowOf callerFile notAdvancing nextInterrupted find past frameStep search installPad clean opened raise resume callerInterrupted column isRegister value inside meet put written layoutAt samePairs goodFp fits described pushes calling keptBy newFrame notSpNorPc callAllowed entered spillAllowed changeAllowed reloadAllowed writeAllowed throwAllowed rows1 rows2 rowsIn rowOf wholeTable goodTable goodFrame padOf outcome due answerOf current raisedBy unwindingOf
+unfolding bounded apart opens Place.holds bytesAt load byteAt ulebAt numbers isKnown columnOf get set overfull entry save formOf decode frameRegs follow act run savedPairs fpPair raSlot badFp loadSlot applyAt apply pastTable leafCfa fpCfa spCfa frameCfa returnAddress setReturn setFrame setCaller stepAt Step.step readAs passes valid checked entryAt leftBreaks rightBreaks judged handler nextDelta matched handler2 rowsOf word stride chunkAt faulty headAt startAt endAt addressOf handlersOf recordAt recordAt2 recordOf holds badRecord chunksFrom chunks records halve leftMeets rightMeets settle Lookup.search inRange searchIn lookup soundTest rowless rowAfter installed searchedCode Reason.rowOf callerFile notAdvancing nextInterrupted find past frameStep search installPad clean opened raise resume callerInterrupted column isRegister value inside meet replaced put written layoutAt samePairs goodFp fits described pushes calling keptBy newFrame notSpNorPc callAllowed entered spillAllowed changeAllowed reloadAllowed writeAllowed throwAllowed rows1 rows2 rowsIn rowOf wholeTable goodTable goodFrame padOf outcome due answerOf current raisedBy unwindingOf stored
 overwritten-scenarios = (
   over-reported Aarch64.caught _ (aarch64-scenarios .0) (λ exception. refl),
   over-reported X86.caught _ (x86-scenarios .0) (λ exception. refl),
@@ -113,12 +114,22 @@ overwritten-scenarios = (
   λ exception. refl,
 )
 
+-- the stores reach up to the first live slot of a frame not yet passed, and lie in the frames passed and below
+pub between-scenarios :
+    HoldsBetween Aarch64.caught (0x8000 ∷ 0x8040 ∷ 0x8060 ∷ 0x8070 ∷ 0x8070 ∷ [])
+    × HoldsBetween X86.caught (0x8010 ∷ 0x8050 ∷ 0x8070 ∷ 0x8080 ∷ 0x8080 ∷ [])
+unfolding bounded apart opens Place.holds bytesAt load byteAt ulebAt numbers isKnown columnOf get set overfull entry save formOf decode frameRegs follow act run savedPairs fpPair raSlot badFp loadSlot applyAt apply pastTable leafCfa fpCfa spCfa frameCfa returnAddress setReturn setFrame setCaller stepAt Step.step readAs passes valid checked entryAt leftBreaks rightBreaks judged handler nextDelta matched handler2 rowsOf word stride chunkAt faulty headAt startAt endAt addressOf handlersOf recordAt recordAt2 recordOf holds badRecord chunksFrom chunks records halve leftMeets rightMeets settle Lookup.search inRange searchIn lookup soundTest rowless rowAfter installed searchedCode Reason.rowOf callerFile notAdvancing nextInterrupted find past frameStep search installPad clean opened raise resume callerInterrupted column isRegister value inside meet replaced put written layoutAt samePairs goodFp fits described pushes calling keptBy newFrame notSpNorPc callAllowed entered spillAllowed changeAllowed reloadAllowed writeAllowed throwAllowed rows1 rows2 rowsIn rowOf wholeTable goodTable goodFrame padOf outcome due answerOf current raisedBy unwindingOf stored fitsIn
+between-scenarios = (
+  between-holds Aarch64.caught _ (aarch64-scenarios .0) (λ exception. (refl, (refl, (refl, (refl, (refl, tt)))))),
+  between-holds X86.caught _ (x86-scenarios .0) (λ exception. (refl, (refl, (refl, (refl, (refl, tt)))))),
+)
+
 -- the events of the first scenario of each are within the rules or against them, as their labels say
 pub labels-right : (labelsRight Aarch64.start (Aarch64.caught .labelled) ≡ true) × (labelsRight X86.start (X86.caught .labelled) ≡ true)
-unfolding bounded apart opens Place.holds bytesAt load byteAt ulebAt numbers isKnown columnOf get set overfull entry save formOf decode frameRegs follow act run savedPairs fpPair raSlot badFp loadSlot applyAt apply pastTable leafCfa fpCfa spCfa frameCfa returnAddress setReturn setFrame setCaller stepAt Step.step readAs passes valid checked entryAt leftBreaks rightBreaks judged handler nextDelta matched handler2 rowsOf word stride chunkAt faulty headAt startAt endAt addressOf handlersOf recordAt recordAt2 recordOf holds badRecord chunksFrom chunks records halve leftMeets rightMeets settle Lookup.search inRange searchIn lookup soundTest rowless rowAfter installed searchedCode Reason.rowOf callerFile notAdvancing nextInterrupted find past frameStep search installPad clean opened raise resume callerInterrupted column isRegister value inside meet put written layoutAt samePairs goodFp fits described pushes calling keptBy newFrame notSpNorPc callAllowed entered spillAllowed changeAllowed reloadAllowed writeAllowed throwAllowed rows1 rows2 rowsIn rowOf wholeTable goodTable goodFrame padOf outcome due answerOf current raisedBy unwindingOf
+unfolding bounded apart opens Place.holds bytesAt load byteAt ulebAt numbers isKnown columnOf get set overfull entry save formOf decode frameRegs follow act run savedPairs fpPair raSlot badFp loadSlot applyAt apply pastTable leafCfa fpCfa spCfa frameCfa returnAddress setReturn setFrame setCaller stepAt Step.step readAs passes valid checked entryAt leftBreaks rightBreaks judged handler nextDelta matched handler2 rowsOf word stride chunkAt faulty headAt startAt endAt addressOf handlersOf recordAt recordAt2 recordOf holds badRecord chunksFrom chunks records halve leftMeets rightMeets settle Lookup.search inRange searchIn lookup soundTest rowless rowAfter installed searchedCode Reason.rowOf callerFile notAdvancing nextInterrupted find past frameStep search installPad clean opened raise resume callerInterrupted column isRegister value inside meet replaced put written layoutAt samePairs goodFp fits described pushes calling keptBy newFrame notSpNorPc callAllowed entered spillAllowed changeAllowed reloadAllowed writeAllowed throwAllowed rows1 rows2 rowsIn rowOf wholeTable goodTable goodFrame padOf outcome due answerOf current raisedBy unwindingOf
 labels-right = (refl, refl)
 
 -- so are those of the last one
 pub leaf-labels-right : (labelsRight Aarch64.start Aarch64.toLeaf ≡ true) × (labelsRight X86.start X86.toLeaf ≡ true)
-unfolding bounded apart opens Place.holds bytesAt load byteAt ulebAt numbers isKnown columnOf get set overfull entry save formOf decode frameRegs follow act run savedPairs fpPair raSlot badFp loadSlot applyAt apply pastTable leafCfa fpCfa spCfa frameCfa returnAddress setReturn setFrame setCaller stepAt Step.step readAs passes valid checked entryAt leftBreaks rightBreaks judged handler nextDelta matched handler2 rowsOf word stride chunkAt faulty headAt startAt endAt addressOf handlersOf recordAt recordAt2 recordOf holds badRecord chunksFrom chunks records halve leftMeets rightMeets settle Lookup.search inRange searchIn lookup soundTest rowless rowAfter installed searchedCode Reason.rowOf callerFile notAdvancing nextInterrupted find past frameStep search installPad clean opened raise resume callerInterrupted column isRegister value inside meet put written layoutAt samePairs goodFp fits described pushes calling keptBy newFrame notSpNorPc callAllowed entered spillAllowed changeAllowed reloadAllowed writeAllowed throwAllowed rows1 rows2 rowsIn rowOf wholeTable goodTable goodFrame padOf outcome due answerOf current raisedBy unwindingOf
+unfolding bounded apart opens Place.holds bytesAt load byteAt ulebAt numbers isKnown columnOf get set overfull entry save formOf decode frameRegs follow act run savedPairs fpPair raSlot badFp loadSlot applyAt apply pastTable leafCfa fpCfa spCfa frameCfa returnAddress setReturn setFrame setCaller stepAt Step.step readAs passes valid checked entryAt leftBreaks rightBreaks judged handler nextDelta matched handler2 rowsOf word stride chunkAt faulty headAt startAt endAt addressOf handlersOf recordAt recordAt2 recordOf holds badRecord chunksFrom chunks records halve leftMeets rightMeets settle Lookup.search inRange searchIn lookup soundTest rowless rowAfter installed searchedCode Reason.rowOf callerFile notAdvancing nextInterrupted find past frameStep search installPad clean opened raise resume callerInterrupted column isRegister value inside meet replaced put written layoutAt samePairs goodFp fits described pushes calling keptBy newFrame notSpNorPc callAllowed entered spillAllowed changeAllowed reloadAllowed writeAllowed throwAllowed rows1 rows2 rowsIn rowOf wholeTable goodTable goodFrame padOf outcome due answerOf current raisedBy unwindingOf
 leaf-labels-right = (refl, refl)

@@ -5,7 +5,7 @@ use mathlib.Core.Logic.{inl, ⊎-elim}
 use mathlib.Core.Path.{_≡_, refl, sym, _∙_, ap, subst}
 use Prim.Native.Nat.{ℕ, zero, suc, _-_}
 use lib.Dec.{eqb}
-use lib.ListN.{drop}
+use lib.ListN.{length, drop}
 use borrow.Author.Tests.{eqb-true}
 use Rattle.failure.specs.Outcome.{Outcome, Answer}
 use Rattle.mem.specs.Memory.{Region}
@@ -18,13 +18,15 @@ use Rattle.model.specs.declared.Unwinding.{Unwinding}
 use Rattle.model.specs.Cleanup.{Cleaned}
 use Rattle.model.specs.Unwinding.{frame0, raised}
 use Rattle.model.specs.Machine.{Open, Machine, archOf, lentBy, address, inside}
-use Rattle.model.specs.Expected.{Compared, firstOf}
+use Rattle.model.specs.Expected.{Compared, due, firstOf}
+use Rattle.model.specs.Between.{SparedBetween}
 use Rattle.model.specs.OtherStack.{SameWord, SameSlots, SameLive, withStack}
 use Rattle.model.specs.Demand.{answerOf, currentBy, current, Admissible, unlessRefused, answers, unwindingOf}
 use Rattle.model.specs.LiveStack.{Usable}
 use Rattle.model.proofs.Live.{from-number}
-use Rattle.runs.specs.Scenario.{Scenario, reached, callsFor, Holds}
-use Rattle.runs.specs.Overwritten.{stackFor, callOver, callsOver, sameSlots, sameIn, sameAt, HoldsOver}
+use Rattle.model.proofs.Between.{demand3-between}
+use Rattle.runs.specs.Scenario.{Scenario, events, reached, handedBack, callsFor, Holds}
+use Rattle.runs.specs.Overwritten.{stackFor, callOver, callsOver, sameSlots, sameIn, sameAt, HoldsOver, storesBelow, HoldsBetween}
 
 -- each of them is true
 abbrev pub allTrue : List Bool → Bool
@@ -135,3 +137,21 @@ over-reported s same holds e =
   where
     said : (exception : ℕ) → Says (archOf (s .machine)) (callsFor s) (reached s) (begun s (reached s) exception)
     said exception = says (archOf (s .machine)) (callsFor s) (reached s) (begun s (reached s) exception)
+
+-- stores between the calls of a scenario that holds: the theorem gives the landings
+pub between-holds : (s : Scenario) (below : List ℕ) → Holds s →
+    ((exception : ℕ) →
+    SparedBetween (reached s) (handedBack s exception) (reached s .stack) (storesBelow (reached s .stack) below)) → HoldsBetween s below
+between-holds s below holds spared =
+    record {
+      spared = spared;
+      cleans = λ exception.
+          demand3-between (s .machine) (holds .fresh) (events (s .labelled)) (s .throw) (holds .allowed) (holds .sound) exception
+          (storesBelow (reached s .stack) below) (spared exception)
+          ∙ (ap (λ (n : ℕ). firstOf n (due (reached s) (s .throw))) (counted (reached s .stack) below)
+          ∙ ap (firstOf (length below)) (holds .lands));
+    }
+  where
+    counted : (r : Region) (xs : List ℕ) → length (storesBelow r xs) ≡ length xs
+    counted r [] = refl
+    counted r (x ∷ xs) = ap suc (counted r xs)

@@ -1,11 +1,11 @@
 -- Closed runs over a stack that is overwritten: before each sweep call all that lies below the frame that comes next is overwritten, the
 -- frame that landed included.
 use mathlib.Core.Bool.{Bool, true, _&&_}
-use mathlib.Core.List.{List, [], _∷_, _++_}
+use mathlib.Core.List.{List, [], _∷_}
 use mathlib.Core.Path.{_≡_}
 use Prim.Native.Nat.{ℕ, zero, suc, _-_}
 use lib.Dec.{eqb}
-use lib.ListN.{drop, replicate}
+use lib.ListN.{length, replicate}
 use Rattle.mem.specs.Memory.{Region}
 use Rattle.arch.specs.File.{sp}
 use Rattle.lookup.specs.Field.{word}
@@ -16,15 +16,16 @@ use Rattle.model.specs.Expected.{firstOf}
 use Rattle.model.specs.OtherStack.{withStack}
 use Rattle.model.specs.Demand.{ResumeCall, regular, current, Admissible, answers}
 use Rattle.model.specs.LiveStack.{Usable}
+use Rattle.model.specs.Between.{Store, stored, SparedBetween, callsBetween}
 use Rattle.runs.specs.Scenario.{Scenario, reached, handedBack, callsFor}
 
--- a region with every byte below an address overwritten
-abbrev pub overwritten : Region → ℕ → Region
-overwritten r x = record { base = r .base; bytes = replicate (x - r .base) 0xee ++ drop (x - r .base) (r .bytes) }
+-- a store over every byte of a region below an address
+abbrev pub allBelow : Region → ℕ → Store
+allBelow r x = record { address = r .base; bytes = replicate (x - r .base) 0xee }
 
 -- the stack that a sweep call finds: overwritten up to the sp of the frame that comes next, which is the CFA of the one before it
 abbrev pub stackFor : Machine → Unwinding → Region
-stackFor m u = overwritten (m .stack) (sp (archOf m) (u .regs .r))
+stackFor m u = stored (m .stack) (allBelow (m .stack) (sp (archOf m) (u .regs .r)))
 
 -- a sweep call over that stack
 abbrev pub callOver : Machine → Unwinding → ResumeCall
@@ -63,3 +64,15 @@ pub record HoldsOver (s : Scenario) (same : List (List Bool)) : Type 0 where
   -- and give the landings
   pub cleans : (exception : ℕ) →
       answers (archOf (s .machine)) (callsOver (callsFor s) (reached s) (handedBack s exception)) ≡ firstOf (callsFor s) (s .landings)
+
+-- before each call a store over every byte below one of these addresses
+abbrev pub storesBelow : Region → List ℕ → List (List Store)
+storesBelow r [] = []
+storesBelow r (x ∷ xs) = (allBelow r x ∷ []) ∷ storesBelow r xs
+
+-- a scenario's stores between the calls are spared ones, and the calls give the landings
+pub record HoldsBetween (s : Scenario) (below : List ℕ) : Type 0 where
+  pub spared : (exception : ℕ) → SparedBetween (reached s) (handedBack s exception) (reached s .stack) (storesBelow (reached s .stack) below)
+  pub cleans : (exception : ℕ) →
+      answers (archOf (reached s)) (callsBetween (reached s) (handedBack s exception) (reached s .stack) (storesBelow (reached s .stack) below))
+      ≡ firstOf (length below) (s .landings)

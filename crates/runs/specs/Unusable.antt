@@ -11,10 +11,11 @@ use Rattle.arch.specs.Arch.{Arch}
 use Rattle.model.specs.declared.Unwinding.{Unwinding}
 use Rattle.model.specs.Cleanup.{Cleaned}
 use Rattle.model.specs.Search.{Chosen}
-use Rattle.model.specs.Machine.{Machine, archOf, lentBy, written}
+use Rattle.model.specs.Machine.{Machine, archOf, lentBy}
 use Rattle.model.specs.Expected.{LandingPad, Compared, Installed, Finished}
 use Rattle.model.specs.OtherStack.{withStack}
 use Rattle.model.specs.Demand.{answerOf, regular, compared}
+use Rattle.model.specs.Between.{stored}
 use Rattle.model.specs.Call.{after, nth}
 use Rattle.runs.specs.Scenario.{Scenario, throwAt, landing, reached, handedBack}
 use Rattle.runs.specs.Overwritten.{sameIn}
@@ -73,7 +74,7 @@ ofOuter = landing 3 0x8070 0x4030 (203 ∷ 1006 ∷ 1012 ∷ 1013 ∷ 1014 ∷ 1
 abbrev pub attempts : List Attempt
 attempts =
     -- a store into the return address of `plain`, which comes next
-    record { given = 0; unwindingAfter = 0; stack = λ r. written r 0x8028 0 } ∷
+    record { given = 0; unwindingAfter = 0; stack = λ r. stored r (record { address = 0x8028; bytes = replicate 8 0 }) } ∷
     -- the same slots by their offsets, but 8 bytes lower
     record { given = 0; unwindingAfter = 0; stack = λ r. record { base = 0x7ff8; bytes = r .bytes ++ replicate 8 0 } } ∷
     -- the unwinding of the throw once more
@@ -114,7 +115,7 @@ caughtLow =
 
 -- a store outside the stack, right below it, which meets no live slot; as a change of the region it lands on the first 8 bytes
 abbrev pub attemptsLow : List Attempt
-attemptsLow = record { given = 0; unwindingAfter = 0; stack = λ r. written r 0x8018 7 } ∷ []
+attemptsLow = record { given = 0; unwindingAfter = 0; stack = λ r. stored r (record { address = 0x8018; bytes = 7 ∷ replicate 7 0 }) } ∷ []
 
 -- 15 is not as at the call of `framed`
 abbrev pub foundLow : List Finding

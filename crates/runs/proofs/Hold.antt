@@ -49,7 +49,7 @@ use Rattle.runs.specs.Scenario.{Holds, labelsRight}
 use Rattle.runs.specs.Overwritten.{HoldsOver, HoldsBetween}
 use Rattle.runs.specs.Unusable.{ComeTo, attempts, found, caughtLow, attemptsLow, foundLow}
 use Rattle.runs.proofs.Runs.{fresh-tested, holds-reported}
-use Rattle.runs.proofs.Overwritten.{over-reported, between-holds}
+use Rattle.runs.proofs.Overwritten.{over-reported, between-tested}
 use Rattle.runs.specs.Aarch64 as Aarch64
 use Rattle.runs.specs.X86 as X86
 
@@ -120,8 +120,8 @@ pub between-scenarios :
     × HoldsBetween X86.caught (0x8010 ∷ 0x8050 ∷ 0x8070 ∷ 0x8080 ∷ 0x8080 ∷ [])
 unfolding bounded apart opens Place.holds bytesAt load byteAt ulebAt numbers isKnown columnOf get set overfull entry save formOf decode frameRegs follow act run savedPairs fpPair raSlot badFp loadSlot applyAt apply pastTable leafCfa fpCfa spCfa frameCfa returnAddress setReturn setFrame setCaller stepAt Step.step readAs passes valid checked entryAt leftBreaks rightBreaks judged handler nextDelta matched handler2 rowsOf word stride chunkAt faulty headAt startAt endAt addressOf handlersOf recordAt recordAt2 recordOf holds badRecord chunksFrom chunks records halve leftMeets rightMeets settle Lookup.search inRange searchIn lookup soundTest rowless rowAfter installed searchedCode Reason.rowOf callerFile notAdvancing nextInterrupted find past frameStep search installPad clean opened raise resume callerInterrupted column isRegister value inside meet replaced put written layoutAt samePairs goodFp fits described pushes calling keptBy newFrame notSpNorPc callAllowed entered spillAllowed changeAllowed reloadAllowed writeAllowed throwAllowed rows1 rows2 rowsIn rowOf wholeTable goodTable goodFrame padOf outcome due answerOf current raisedBy unwindingOf stored fitsIn
 between-scenarios = (
-  between-holds Aarch64.caught _ (aarch64-scenarios .0) (λ exception. (refl, (refl, (refl, (refl, (refl, tt)))))),
-  between-holds X86.caught _ (x86-scenarios .0) (λ exception. (refl, (refl, (refl, (refl, (refl, tt)))))),
+  between-tested Aarch64.caught _ (aarch64-scenarios .0) (λ exception. refl),
+  between-tested X86.caught _ (x86-scenarios .0) (λ exception. refl),
 )
 
 -- the events of the first scenario of each are within the rules or against them, as their labels say

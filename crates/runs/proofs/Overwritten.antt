@@ -19,9 +19,9 @@ use Rattle.model.specs.Cleanup.{Cleaned}
 use Rattle.model.specs.Unwinding.{frame0, raised}
 use Rattle.model.specs.Machine.{Open, Machine, archOf, lentBy, address, inside}
 use Rattle.model.specs.Expected.{Compared, due, firstOf}
-use Rattle.model.specs.Between.{SparedBetween}
+use Rattle.model.specs.Between.{Store, storedAll, sparesAll, SparedBetween}
 use Rattle.model.specs.OtherStack.{SameWord, SameSlots, SameLive, withStack}
-use Rattle.model.specs.Demand.{answerOf, currentBy, current, Admissible, unlessRefused, answers, unwindingOf}
+use Rattle.model.specs.Demand.{answerOf, regular, currentBy, current, Admissible, unlessRefused, answers, unwindingOf}
 use Rattle.model.specs.LiveStack.{Usable}
 use Rattle.model.proofs.Live.{from-number}
 use Rattle.model.proofs.Between.{demand3-between}
@@ -138,11 +138,27 @@ over-reported s same holds e =
     said : (exception : ℕ) → Says (archOf (s .machine)) (callsFor s) (reached s) (begun s (reached s) exception)
     said exception = says (archOf (s .machine)) (callsFor s) (reached s) (begun s (reached s) exception)
 
--- stores between the calls of a scenario that holds: the theorem gives the landings
-pub between-holds : (s : Scenario) (below : List ℕ) → Holds s →
+-- stores between the calls are spared ones, each call computed once
+abbrev pub sparedOnce : Machine → Unwinding → Region → List (List Store) → Bool
+sparedOnce m u r [] = true
+sparedOnce m u r (ws ∷ wss) =
+    let r′ = storedAll r ws in
+    sparesAll r (drop (u .number) (m .frames)) ws && sparedOnce m (currentBy u u (answerOf (regular (withStack m r′) u))) r′ wss
+
+once-spared : (m : Machine) (u : Unwinding) (r : Region) (wss : List (List Store)) → sparedOnce m u r wss ≡ true → SparedBetween m u r wss
+unfolding current
+once-spared m u r [] h = tt
+once-spared m u r (ws ∷ wss) h =
+    let next = current u (regular (withStack m (storedAll r ws)) u) in
+    let (here, later) = both (sparesAll r (drop (u .number) (m .frames)) ws) (sparedOnce m next (storedAll r ws) wss) h in
+    (here, once-spared m next (storedAll r ws) wss later)
+
+-- then the theorem gives the landings of a scenario that holds
+pub between-tested : (s : Scenario) (below : List ℕ) → Holds s →
     ((exception : ℕ) →
-    SparedBetween (reached s) (handedBack s exception) (reached s .stack) (storesBelow (reached s .stack) below)) → HoldsBetween s below
-between-holds s below holds spared =
+    (let m = reached s in sparedOnce m (begun s m exception) (m .stack) (storesBelow (m .stack) below)) ≡ true) → HoldsBetween s below
+unfolding unwindingOf
+between-tested s below holds e =
     record {
       spared = spared;
       cleans = λ exception.
@@ -152,6 +168,11 @@ between-holds s below holds spared =
           ∙ ap (firstOf (length below)) (holds .lands));
     }
   where
+    spared : (exception : ℕ) → SparedBetween (reached s) (handedBack s exception) (reached s .stack) (storesBelow (reached s .stack) below)
+    spared exception =
+        rw (holds .raises)
+        (once-spared (reached s) (begun s (reached s) exception) (reached s .stack) (storesBelow (reached s .stack) below) (e exception))
+
     counted : (r : Region) (xs : List ℕ) → length (storesBelow r xs) ≡ length xs
     counted r [] = refl
     counted r (x ∷ xs) = ap suc (counted r xs)

@@ -19,7 +19,7 @@ use Rattle.model.specs.Between.{stored}
 use Rattle.model.specs.Call.{after, nth}
 use Rattle.runs.specs.Scenario.{Scenario, throwAt, landing, reached, handedBack}
 use Rattle.runs.specs.Overwritten.{sameIn}
-use Rattle.runs.specs.X86.{start, eventsWith, landings, caught}
+use Rattle.runs.specs.X86.{start, eventsWith, landings}
 
 -- a sweep call when so many landings were given, with the unwinding that came after so many of them, over a stack made of the throw's
 pub record Attempt : Type 0 where

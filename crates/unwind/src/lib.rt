@@ -63,7 +63,7 @@ use state::State;
 pub const MAX_FRAMES: usize = 1024;
 
 // The caller of a frame is interrupted: never; only the first frame can be.
-const CALLER_INTERRUPTED: bool = false;
+const NEXT_INTERRUPTED: bool = false;
 
 // The most frames that one call of walk gives.
 pub const BATCH_FRAMES: usize = 16;
@@ -716,7 +716,7 @@ fn step_from<'a>(
         Met::Rowless(record) => Stepped {
             answer: Walked::Past(record),
             number: number + 1,
-            interrupted: CALLER_INTERRUPTED,
+            interrupted: NEXT_INTERRUPTED,
             regs: Regs { r: file },
         },
         // no row is asked for, so none is met
@@ -841,7 +841,7 @@ fn walk_from<'a>(
                 pcs[count] = pc;
                 sps[count] = sp;
                 at += 1;
-                first = CALLER_INTERRUPTED;
+                first = NEXT_INTERRUPTED;
             }
             Given::End => return Batch {
                 answer: WalkAnswer::End,
@@ -991,7 +991,7 @@ fn search<'a>(
         match search_turn(number, sp, met) {
             Looking::On => {
                 number += 1;
-                first = CALLER_INTERRUPTED;
+                first = NEXT_INTERRUPTED;
             }
             Looking::Stop(answer) => return answer,
         }
@@ -1190,14 +1190,14 @@ fn clean<'a>(
         ) {
             Cleaning::On => {
                 number += 1;
-                interrupted = CALLER_INTERRUPTED;
+                interrupted = NEXT_INTERRUPTED;
             }
             Cleaning::Install(start, pad) => {
                 install(unwinding.exception, start, pad, &mut own);
                 return Resumed {
                     answer: ResumeAnswer::Install(number),
                     regs: Regs { r: own },
-                    unwinding: going_on(unwinding, number + 1, CALLER_INTERRUPTED, Regs { r: file }),
+                    unwinding: going_on(unwinding, number + 1, NEXT_INTERRUPTED, Regs { r: file }),
                 };
             }
             Cleaning::Fatal => return unchanged(ResumeAnswer::Fatal, unwinding),

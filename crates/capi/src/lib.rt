@@ -415,7 +415,8 @@ pub extern "C" fn eko_raise<'a>(
     ))
 }
 
-// resume (document 01: sweep).
+// resume (document 01: sweep). Of the stack that it is lent, and of what landing pads may have written there since the throw, `resume` of
+// `unwind` says more.
 #[no_mangle]
 pub extern "C" fn eko_resume<'a>(
     section: &'a [u8],

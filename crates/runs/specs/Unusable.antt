@@ -75,6 +75,8 @@ abbrev pub attempts : List Attempt
 attempts =
     -- a store into the return address of `plain`, which comes next
     record { given = 0; unwindingAfter = 0; stack = λ r. stored r (record { address = 0x8028; bytes = replicate 8 0 }) } ∷
+    -- the same by a longer store, whose first byte lies in no live slot
+    record { given = 0; unwindingAfter = 0; stack = λ r. stored r (record { address = 0x801f; bytes = replicate 17 0 }) } ∷
     -- the same slots by their offsets, but 8 bytes lower
     record { given = 0; unwindingAfter = 0; stack = λ r. record { base = 0x7ff8; bytes = r .bytes ++ replicate 8 0 } } ∷
     -- the unwinding of the throw once more
@@ -87,6 +89,7 @@ attempts =
 -- what they come to
 abbrev pub found : List Finding
 found =
+    record { accepted = true; same = false ∷ true ∷ true ∷ true ∷ true ∷ []; answer = Refused 22; due = Installed ofFramed } ∷
     record { accepted = true; same = false ∷ true ∷ true ∷ true ∷ true ∷ []; answer = Refused 22; due = Installed ofFramed } ∷
     record { accepted = true; same = false ∷ false ∷ false ∷ false ∷ false ∷ []; answer = Refused 22; due = Installed ofFramed } ∷
     record { accepted = true; same = true ∷ true ∷ true ∷ true ∷ true ∷ []; answer = Answer (Installed ofFramed); due = Installed ofOld } ∷

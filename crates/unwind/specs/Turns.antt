@@ -131,6 +131,10 @@ meeting l f file (met.Rowless r) = Answer (Rowless r (callerOf l f file))
 meeting l f file (met.Row start pad action) = Answer (WithRow (callerOf l f file) start pad action)
 meeting l f file (met.Refused n) = Outcome.Refused n
 
+-- a frame was met: its step, then its row if rows are asked for, where the caller has this file
+abbrev pub Meets : Bool → ℕ → Lent → Frame → List ℕ → Met → Type 0
+Meets rows arch l f file x = meeting l f file x ≡ seen rows arch l f
+
 -- a turn of the search, where the frames after it come to `rest`
 abbrev pub searchOr : Looking → Outcome Searched → Outcome Searched
 searchOr looking.On rest = rest

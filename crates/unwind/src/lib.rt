@@ -24,7 +24,7 @@ ghost use Rattle.model.specs.Unwinding as Spec;
 ghost use Rattle.model.specs.Call.{Promised, GivesNext};
 ghost use Rattle.unwind.specs.Answers.{frameWith, frameAt, staying, stepped, searched, raisedBy, unmoved, resumedBy, cleaned, callWith, isLanding, callNumber, unwoundBy};
 ghost use Rattle.unwind.specs.Batches.{givenAs, given, noFrames, walkFrom, walkedBy, walking};
-ghost use Rattle.unwind.specs.Turns.{fileTold, callerByRun, advanced, passed, recordOf, Locates, metRow, rowPast, meeting, seen, Follows, SearchTurn, cleanRow, cleanMet};
+ghost use Rattle.unwind.specs.Turns.{fileTold, callerByRun, advanced, passed, recordOf, Locates, metRow, rowPast, Meets, Follows, SearchTurn, cleanRow, cleanMet};
 use arch::COLUMNS;
 use arch::DATA_REG0;
 use arch::DATA_REG1;
@@ -479,11 +479,9 @@ fn meet_through<'a>(
         (rowless interrupted «record» pc ≡ false) × («record» .version ≡ 2)
         ⌝ }
     ensures { λ r. ⌜
-        meeting (lent (now (section .entry)) «section_base» (now (stack .entry)) «stack_base»)
-        (frameWith number interrupted (now (file .entry))) (now (file .exit)) r ≡
-        seen true arch
+        Meets true arch
         (lent (now (section .entry)) «section_base» (now (stack .entry)) «stack_base»)
-        (frameWith number interrupted (now (file .entry)))
+        (frameWith number interrupted (now (file .entry))) (now (file .exit)) r
         ⌝ }
 {
     let off = offset_from(record.start, looked_up(interrupted, pc));
@@ -563,11 +561,9 @@ fn meet_at<'a>(
         (Answer (some «record») ≡ recordOf (lent (now section) «section_base» (now stack) «stack_base») arch number interrupted pc)
         ⌝ }
     ensures { λ r. ⌜
-        meeting (lent (now (section .entry)) «section_base» (now (stack .entry)) «stack_base»)
-        (frameWith number interrupted (now (file .entry))) (now (file .exit)) r ≡
-        seen rows arch
+        Meets rows arch
         (lent (now (section .entry)) «section_base» (now (stack .entry)) «stack_base»)
-        (frameWith number interrupted (now (file .entry)))
+        (frameWith number interrupted (now (file .entry))) (now (file .exit)) r
         ⌝ }
 {
     let row_asked = asked(rows, interrupted, record, pc);
@@ -631,11 +627,9 @@ fn meet<'a>(
     file: &mut [usize; COLUMNS],
 ) -> Met
     ensures { λ r. ⌜
-        meeting (lent (now (section .entry)) «section_base» (now (stack .entry)) «stack_base»)
-        (frameWith number interrupted (now (file .entry))) (now (file .exit)) r ≡
-        seen rows arch
+        Meets rows arch
         (lent (now (section .entry)) «section_base» (now (stack .entry)) «stack_base»)
-        (frameWith number interrupted (now (file .entry)))
+        (frameWith number interrupted (now (file .entry))) (now (file .exit)) r
         ⌝ }
 {
     let pc = file[PC_COLUMN];

@@ -20,12 +20,12 @@ use Rattle.model.specs.Between.{Store, stored, SparedBetween, callsBetween}
 use Rattle.runs.specs.Scenario.{Scenario, reached, handedBack, callsFor}
 
 -- a store over every byte of a region below an address
-abbrev pub allBelow : Region → ℕ → Store
-allBelow r x = record { address = r .base; bytes = replicate (x - r .base) 0xee }
+abbrev pub storeBelow : Region → ℕ → Store
+storeBelow r x = record { address = r .base; bytes = replicate (x - r .base) 0xee }
 
 -- the stack that a sweep call finds: overwritten up to the sp of the frame that comes next, which is the CFA of the one before it
 abbrev pub stackFor : Machine → Unwinding → Region
-stackFor m u = stored (m .stack) (allBelow (m .stack) (sp (archOf m) (u .regs .r)))
+stackFor m u = stored (m .stack) (storeBelow (m .stack) (sp (archOf m) (u .regs .r)))
 
 -- a sweep call over that stack
 abbrev pub callOver : Machine → Unwinding → ResumeCall
@@ -68,7 +68,7 @@ pub record HoldsOver (s : Scenario) (same : List (List Bool)) : Type 0 where
 -- before each call a store over every byte below one of these addresses
 abbrev pub storesBelow : Region → List ℕ → List (List Store)
 storesBelow r [] = []
-storesBelow r (x ∷ xs) = (allBelow r x ∷ []) ∷ storesBelow r xs
+storesBelow r (x ∷ xs) = (storeBelow r x ∷ []) ∷ storesBelow r xs
 
 -- a scenario's stores between the calls are spared ones, and the calls give the landings
 pub record HoldsBetween (s : Scenario) (below : List ℕ) : Type 0 where

@@ -83,7 +83,7 @@ module _
         Live (archOf m) (g .stack) f
     ahead e k f least most at =
         same-live (archOf m) (m .stack) (g .stack) f (live-at (archOf m) (m .stack) (m .frames) live k f at)
-        (g .same e k f least most at)
+        (g .same (cc) k f (omega arith) (omega arith) at)
 
     pub serves : Due m u ls → Serves m u ls c
     unfolding answerOf resume clean

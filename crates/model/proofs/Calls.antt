@@ -28,7 +28,8 @@ use Rattle.model.proofs.Walks.{Walks}
 use Rattle.model.proofs.Cleaning.{chosen-above, At, Amid, Over, Cleans, cleans}
 
 -- what is lent is accepted, so a call comes to its sweep
-pub opened-known : {A : Type 0} (m : Machine) (o : Outcome A) → opens (lentBy m) ≡ true → isKnown (m .tables .arch) ≡ true → opened (lentBy m) (m .tables .arch) o ≡ o
+pub opened-known : {A : Type 0} (m : Machine) (o : Outcome A) → opens (lentBy m) ≡ true → isKnown (m .tables .arch) ≡ true →
+    opened (lentBy m) (m .tables .arch) o ≡ o
 unfolding opened
 opened-known m o e k = rw (e, k)
 
@@ -129,8 +130,8 @@ module _
 
   -- a call that is refused changes nothing
   refused-first : (c : ResumeCall) (cs : List ResumeCall) (u : Unwinding) (ls : List LandingPad) → (Usable m u c → Serves m u ls c) →
-      (o : Outcome Cleaned) → answerOf c ≡ o → IsRefused o → Admissible (Usable m) (current u c) cs → (Admissible (Usable m) u cs → Lands cs u ls) →
-      Lands (c ∷ cs) u ls
+      (o : Outcome Cleaned) → answerOf c ≡ o → IsRefused o → Admissible (Usable m) (current u c) cs →
+      (Admissible (Usable m) u cs → Lands cs u ls) → Lands (c ∷ cs) u ls
   unfolding current
   refused-first c cs u ls s (Answer x) is refused admissible rest = absurd refused
   refused-first c cs u ls s (Refused n) is refused admissible rest =

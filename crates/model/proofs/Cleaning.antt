@@ -36,7 +36,8 @@ pub chosen-above : (ts : Tables) (n : ℕ) (ss : List Standing) (k s : ℕ) → 
 chosen-above ts n [] k s e = let z : _≡_ {A = ℕ} 0 1 = cc in absurd (omega arith)
 chosen-above ts n (x ∷ ss) k s e = go (rowOf ts x) e (λ p. chosen-above ts (n + 1) ss k s p)
   where
-    acts : (t u : Bool) → (if t then outcomeFrom ts (n + 1) ss else if u then Chosen n (sp (numbers (ts .arch)) (x .file)) else Stopped) ≡ Chosen k s →
+    acts : (t u : Bool) →
+        (if t then outcomeFrom ts (n + 1) ss else if u then Chosen n (sp (numbers (ts .arch)) (x .file)) else Stopped) ≡ Chosen k s →
         (outcomeFrom ts (n + 1) ss ≡ Chosen k s → n + 1 ≤ k) → n ≤ k
     acts true u p later = let l = later p in omega arith
     acts false true p later = let same : n ≡ k = cc in omega arith
@@ -148,7 +149,10 @@ module _ (ts : Tables) (frames : List Open) where
     -- this frame lands
     landed : (pad : ℕ) (rest : List LandingPad) → ls ≡ padOf (numbers (ts .arch)) n (stood interrupted file f) pad ∷ rest →
         At c (frame (n + 1) (callerInterrupted f) next) rest →
-        Cleans c n (Cleanup.installPad (numbers (ts .arch)) exception (frame n interrupted file′) (f .entry .function) pad (frame (n + 1) (callerInterrupted f) next)) ls
+        Cleans c n
+        (Cleanup.installPad (numbers (ts .arch)) exception (frame n interrupted file′) (f .entry .function) pad
+        (frame (n + 1) (callerInterrupted f) next))
+        ls
     landed pad rest e after =
         let l = lands (ts .arch) exception n interrupted file file′ f pad (frame (n + 1) (callerInterrupted f) next) (s .agrees) in
         record {
@@ -166,7 +170,10 @@ module _ (ts : Tables) (frames : List Open) where
 
     abbrev CleanedBy : Found → Type 0
     CleanedBy row =
-        Cleans c n (byRow (numbers (ts .arch)) exception c (frame n interrupted file′) (f .entry .function) (frame (n + 1) (callerInterrupted f) next) o row) ls
+        Cleans c n
+        (byRow (numbers (ts .arch)) exception c (frame n interrupted file′) (f .entry .function) (frame (n + 1) (callerInterrupted f) next)
+        o row)
+        ls
 
     -- by the action of its row
     acts : (pad action : ℕ) (t u : Bool) → eqb action cleanup ≡ t → eqb action catch ≡ u →

@@ -47,7 +47,7 @@ pub record Bounds (section : Region) : Type 0 where
   pub small : size section ≤ 2 ^ 31
 
 -- what is lent is accepted only with such a section
-pub section-bounds : (section : Region) (m : Memory) → opens (record { regions = section ∷ m }) ≡ true → Bounds section
+section-bounds : (section : Region) (m : Memory) → opens (record { regions = section ∷ m }) ≡ true → Bounds section
 unfolding opens bounded
 section-bounds section m e =
     let base = section .base in
@@ -189,10 +189,14 @@ run-lies section m m′ a r l off = go (l .program)
     go (inl e) = rw e
     go (inr h) = run-same section m m′ (r .limit) (l .limit) a off (r .program) h
 
--- so it does not depend on the stack
+-- tables that are lent have such a section
+pub lent-bounds : (ts : Tables) (stack : Region) → opens (lending ts stack) ≡ true → Bounds (ts .section)
+lent-bounds ts stack o = section-bounds (ts .section) (stack ∷ []) o
+
+-- so the run does not depend on the stack
 pub run-in-section : (ts : Tables) (stack : Region) (e : Entry) → opens (lending ts stack) ≡ true → e ∈ recordsOf ts → (off : ℕ) →
     run (memoryWith ts stack) (numbers (ts .arch)) (e .function .program) (e .function .limit) off
     ≡ run (tablesAlone ts) (numbers (ts .arch)) (e .function .program) (e .function .limit) off
 run-in-section ts stack e o p off =
     run-lies (ts .section) (stack ∷ []) [] (numbers (ts .arch)) (e .function)
-    (record-lies (ts .section) (section-bounds (ts .section) (stack ∷ []) o) (ts .arch) e p) off
+    (record-lies (ts .section) (lent-bounds ts stack o) (ts .arch) e p) off

@@ -28,7 +28,7 @@ use Rattle.model.specs.Throw as Throw
 use Rattle.model.specs.Throw.{rowsIn}
 use Rattle.model.specs.Sound.{notRefused, goodTable, goodFrame, SoundTables}
 use Rattle.model.proofs.Chain.{FrameAt}
-use Rattle.model.proofs.InSection.{Bounds, section-bounds, Lies, record-lies, record-holds}
+use Rattle.model.proofs.InSection.{Bounds, lent-bounds, Lies, record-lies, record-holds}
 use Rattle.model.proofs.Rows1.{row-found1}
 use Rattle.model.proofs.Rows2.{row-found2}
 
@@ -82,7 +82,7 @@ row-found ts stack first false file f o bytes s x good = go (eqb (r .handlers) 0
     r = f .entry .function
 
     b : Bounds (ts .section)
-    b = section-bounds (ts .section) (stack ∷ []) o
+    b = lent-bounds ts stack o
 
     tests : (goodTable ts r ≡ true) × (notRefused (Reason.rowOf a (tablesAlone ts) false r (pc file)) ≡ true)
     tests = both (goodTable ts r) (notRefused (Reason.rowOf a (tablesAlone ts) false r (pc file))) good

@@ -58,8 +58,8 @@ module _ (ts : Tables) (stack : Region) (w : Walks ts stack) where
       let g : Goes ts stack n interrupted file′ f =
       w .goes n first interrupted file file′ f (omega arith) zeroth (chain .0) (live .0) agrees in
       let rest =
-      searches fs fuel (n + 1) false (callerInterrupted f) (f .kept) (g .next) (omega arith) (omega arith) (λ e. absurd-bool e) (chain .1) (live .1) (goods .1)
-      (g .agrees) in
+      searches fs fuel (n + 1) false (callerInterrupted f) (f .kept) (g .next) (omega arith) (omega arith) (λ e. absurd-bool e) (chain .1)
+      (live .1) (goods .1) (g .agrees) in
       rw (
         g .steps,
         ap (λ (x : ℕ). Reason.rowOf (numbers (ts .arch)) (memoryWith ts stack) interrupted (f .entry .function) x) (agrees .pc),

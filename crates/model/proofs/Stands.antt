@@ -83,7 +83,8 @@ module _ (ts : Tables) (stack : Region) (tables : SoundTables ts) where
       (n : ℕ) (first interrupted : Bool) (file file′ : List ℕ) (f : Open) → n < maxFrames → (first ≡ true → n ≡ 0) →
       FrameAt ts first interrupted file f → Agrees (numbers (ts .arch)) file′ file →
       (next : List ℕ) →
-      callerFile (numbers (ts .arch)) (memoryWith ts stack) interrupted (f .entry .function) (lookedUp interrupted (pc file)) file′ ≡ Answer next →
+      callerFile (numbers (ts .arch)) (memoryWith ts stack) interrupted (f .entry .function) (lookedUp interrupted (pc file)) file′
+      ≡ Answer next →
       Agrees (numbers (ts .arch)) next (f .kept) → Goes ts stack n interrupted file′ f
   unfolding frameStep
   goes n first interrupted file file′ f few zeroth h g next is agrees =

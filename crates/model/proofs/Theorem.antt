@@ -112,8 +112,8 @@ module _ (m : Machine) (i : Inv m) where
     throws =
         let few = i .few in
         opened-known m _ (i .accepted) (i .known) ∙
-        searches (m .tables) (m .stack) (walks (s .tables) (m .stack) (i .accepted)) (m .frames) 1025 0 true (t .interrupted) (thrown m t) (thrown m t)
-        (omega arith) (omega arith) (λ e. refl) (thrown-chain t allowed) (i .live) (s .frames) (itself t)
+        searches (m .tables) (m .stack) (walks (s .tables) (m .stack) (i .accepted)) (m .frames) 1025 0 true (t .interrupted) (thrown m t)
+        (thrown m t) (omega arith) (omega arith) (λ e. refl) (thrown-chain t allowed) (i .live) (s .frames) (itself t)
 
     -- what is due after it
     pub starts : (exception : ℕ) → Due m (unwindingOf m t exception) (due m t)

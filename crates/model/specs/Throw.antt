@@ -53,7 +53,8 @@ pub record Standing : Type 0 where
 -- file of the call that it made
 abbrev pub standing : Bool → List ℕ → List Open → List Standing
 standing interrupted file [] = []
-standing interrupted file (f ∷ fs) = record { frame = f; file = file; interrupted = interrupted } ∷ standing (callerInterrupted f) (f .kept) fs
+standing interrupted file (f ∷ fs) =
+    record { frame = f; file = file; interrupted = interrupted } ∷ standing (callerInterrupted f) (f .kept) fs
 
 -- the machine's frames at a throw, counted from 0, the innermost
 abbrev pub framesAt : Machine → Throw → List Standing

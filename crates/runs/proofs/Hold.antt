@@ -89,8 +89,8 @@ leaf-scenarios = (
   holds-reported X86.overUnlinked x86-fresh refl (λ exception. refl),
 )
 
--- the first of each holds over a stack that is overwritten. At the first call nothing of a frame is; then the frames passed are, those that landed included:
--- `plain` and `framed`, `old`, and the second `outer`
+-- the first of each holds over a stack that is overwritten. At the first call nothing of a frame is; then the frames passed are, those
+-- that landed included: `plain` and `framed`, `old`, and the second `outer`. Then calls that are not usable
 pub overwritten-scenarios :
     HoldsOver Aarch64.caught (
     (true ∷ true ∷ true ∷ true ∷ true ∷ []) ∷

@@ -72,7 +72,9 @@ storesBelow r (x ∷ xs) = (storeBelow r x ∷ []) ∷ storesBelow r xs
 
 -- a scenario's stores between the calls are spared ones, and the calls give the landings
 pub record HoldsBetween (s : Scenario) (below : List ℕ) : Type 0 where
-  pub spared : (exception : ℕ) → SparedBetween (reached s) (handedBack s exception) (reached s .stack) (storesBelow (reached s .stack) below)
+  pub spared : (exception : ℕ) →
+      SparedBetween (reached s) (handedBack s exception) (reached s .stack) (storesBelow (reached s .stack) below)
   pub cleans : (exception : ℕ) →
-      answers (archOf (reached s)) (callsBetween (reached s) (handedBack s exception) (reached s .stack) (storesBelow (reached s .stack) below))
+      answers (archOf (reached s))
+      (callsBetween (reached s) (handedBack s exception) (reached s .stack) (storesBelow (reached s .stack) below))
       ≡ firstOf (length below) (s .landings)

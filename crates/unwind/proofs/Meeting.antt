@@ -75,7 +75,8 @@ module _ (arch : ℕ) (l : Lent) (f : Frame) (r : Record) (at : ℕ) (q : at ≡
           Answer (Rowless r (callerOf l f file)) ≡ seenAt s arch l f (Walk.Past r (callerOf l f file))
       go true e =
           ap (λ (o : Outcome Found). o >>= λ z. Answer (seenAs r (callerOf l f file) z))
-          (row-none (numbers arch) (l .regions) (f .interrupted) r at (not-false _ e) ∙ ap (λ (k : ℕ). rowOf (numbers arch) (l .regions) (f .interrupted) r k) q)
+          (row-none (numbers arch) (l .regions) (f .interrupted) r at (not-false _ e)
+          ∙ ap (λ (k : ℕ). rowOf (numbers arch) (l .regions) (f .interrupted) r k) q)
       go false e = refl
 
   -- past the frame, by its row

@@ -138,7 +138,10 @@ module _ (arch : ℕ) (l : Lent) (f : Frame) where
 
         -- the search goes on from the caller
         pub searching-on : t ≡ On → (b : Bool) → b ≡ nextInterrupted l f → Searching arch l whole (frameWith (f .number + 1) b file)
-        searching-on h b i = subst (Searching arch l whole) (caller-held l f file b i) (go (s .fuel) (s .enough) (by-turn ∙ ap (λ (y : Looking). searchOr y (searchFrom (s .fuel) arch l (callerOf l f file))) h))
+        searching-on h b i =
+            subst (Searching arch l whole) (caller-held l f file b i)
+            (go (s .fuel) (s .enough)
+            (by-turn ∙ ap (λ (y : Looking). searchOr y (searchFrom (s .fuel) arch l (callerOf l f file))) h))
           where
             go : (n : ℕ) → 1024 ≤ n + f .number → whole ≡ searchFrom n arch l (callerOf l f file) → Searching arch l whole (callerOf l f file)
             go zero b q = let c = searching-below h in absurd (omega (arith, c))

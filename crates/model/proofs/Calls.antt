@@ -20,7 +20,7 @@ use Rattle.model.specs.Machine.{Open, Machine, lentBy, archOf}
 use Rattle.model.specs.Throw.{standing}
 use Rattle.model.specs.Expected.{LandingPad, Compared, firstOf}
 use Rattle.model.specs.OtherStack.{withStack}
-use Rattle.model.specs.Demand.{ResumeCall, answerOf, regular, current, currentBy, IsRefused, Admissible, Served, compared, answers}
+use Rattle.model.specs.Demand.{ResumeCall, answerOf, callOf, current, IsRefused, Admissible, Served, compared, answers}
 use Rattle.model.specs.LiveStack.{Usable}
 use Rattle.model.proofs.Chain.{Live, AllLive}
 use Rattle.model.proofs.Live.{live-at, same-live}
@@ -48,6 +48,17 @@ pub record Serves (m : Machine) (u : Unwinding) (ls : List LandingPad) (c : Resu
   -- and no frame comes back that was passed
   pub passes : u .number ≤ resumed u (Answer answer) .number
 
+-- the current unwinding after a call that gets it and answers
+pub current-answered : (u : Unwinding) (c : ResumeCall) (x : Cleaned) → c .unwinding ≡ u → answerOf c ≡ Answer x →
+    current u c ≡ resumed u (Answer x)
+unfolding current
+current-answered u c x e is = rw is (ap (λ (v : Unwinding). resumed v (Answer x)) e)
+
+-- and after one that is refused
+pub current-refused : (u : Unwinding) (c : ResumeCall) (n : ℕ) → answerOf c ≡ Refused n → current u c ≡ u
+unfolding current
+current-refused u c n is = rw is
+
 -- a machine whose live slots hold the kept values, and whose tables serve the phases beside every stack that opens
 module _
     (m : Machine) (known : isKnown (m .tables .arch) ≡ true) (live : AllLive (archOf m) (m .stack) (m .frames))
@@ -63,7 +74,7 @@ module _
     lent = withStack m (g .stack)
 
     -- nothing is left: finished, and the unwinding is as it was
-    finished : ls ≡ [] → Due m u ls → answerOf (regular lent u) ≡ Answer Cleanup.Finished → Serves m u ls c
+    finished : ls ≡ [] → Due m u ls → answerOf (callOf lent u) ≡ Answer Cleanup.Finished → Serves m u ls c
     finished none d is =
         record {
           answer = Cleanup.Finished;
@@ -75,7 +86,7 @@ module _
         }
 
     cleaning : u .chosen ≡ true →
-        answerOf (regular lent u) ≡ clean (m .tables .arch) (lentBy lent) (u .exception) (choiceOf u) (frameOf u)
+        answerOf (callOf lent u) ≡ clean (m .tables .arch) (lentBy lent) (u .exception) (choiceOf u) (frameOf u)
     unfolding answerOf resume
     cleaning e = rw (opened-known lent _ (g .accepted) known, e)
 
@@ -113,11 +124,9 @@ module _
   usable-first : (c : ResumeCall) (cs : List ResumeCall) (u : Unwinding) (ls : List LandingPad) → (s : Serves m u ls c) →
       c .unwinding ≡ u → Admissible (Usable m) (current u c) cs →
       (Admissible (Usable m) (resumed u (Answer (s .answer))) cs → Lands cs (resumed u (Answer (s .answer))) (s .rest)) → Lands (c ∷ cs) u ls
-  unfolding current
   usable-first c cs u ls s e admissible rest =
       let is : answerOf c ≡ Answer (s .answer) = s .is in
-      let same : currentBy u (c .unwinding) (answerOf c) ≡ resumed u (Answer (s .answer)) =
-      rw is (ap (λ (v : Unwinding). resumed v (Answer (s .answer))) e) in
+      let same = current-answered u c (s .answer) e is in
       let later = rest (subst (λ (v : Unwinding). Admissible (Usable m) v cs) same admissible) in (
         (
           (λ p refused. subst IsRefused is refused),
@@ -132,10 +141,9 @@ module _
   refused-first : (c : ResumeCall) (cs : List ResumeCall) (u : Unwinding) (ls : List LandingPad) → (Usable m u c → Serves m u ls c) →
       (o : Outcome Cleaned) → answerOf c ≡ o → IsRefused o → Admissible (Usable m) (current u c) cs →
       (Admissible (Usable m) u cs → Lands cs u ls) → Lands (c ∷ cs) u ls
-  unfolding current
   refused-first c cs u ls s (Answer x) is refused admissible rest = absurd refused
   refused-first c cs u ls s (Refused n) is refused admissible rest =
-      let same : currentBy u (c .unwinding) (answerOf c) ≡ u = rw is in
+      let same = current-refused u c n is in
       let later = rest (subst (λ (v : Unwinding). Admissible (Usable m) v cs) same admissible) in
       let clash : Usable m u c → ⊥ =
       λ g.

@@ -2,25 +2,29 @@
 -- holds of every machine that events make of a fresh one (`Steps`). Assumes nothing.
 use mathlib.Core.Bool.{Bool, true, false}
 use mathlib.Core.List.{List, [], _∷_, List·Memᴰ·head, List·Memᴰ·tail}
+use mathlib.Core.Logic.{inl}
 use mathlib.Core.Option.{some}
-use mathlib.Core.Path.{_≡_, refl, sym, _∙_, ap}
+use mathlib.Core.Path.{_≡_, refl, sym, _∙_, ap, subst}
 use Prim.Native.Nat.{ℕ, zero, suc, _+_, _≤_, _<_}
 use native.Mathlib.Omega.{arith}
 use lib.Dec.{eqb}
 use lib.ListN.{length, getElem?}
 use Rattle.failure.specs.Choice.{if_then_else_}
+use Rattle.failure.specs.Outcome.{Outcome, Refused, Answer}
 use Rattle.mem.specs.Memory.{Region}
 use Rattle.mem.specs.Opening.{opens}
 use Rattle.arch.specs.Arch.{Arch, numbers}
 use Rattle.rows.specs.Row.{Found, None, Pad, cleanup, catch}
+use Rattle.model.specs.declared.Unwinding.{Unwinding}
 use Rattle.model.specs.FrameStep.{maxFrames}
 use Rattle.model.specs.Search.{Searched, Chosen, Stopped, Ended}
+use Rattle.model.specs.Cleanup.{Cleaned}
 use Rattle.model.specs.Machine.{Open, Machine, lentBy, Tables, callerInterrupted, archOf}
 use Rattle.model.specs.Throw.{Throw, thrown, throwable, throwAllowed, Standing, standing, framesAt, rowOf}
 use Rattle.model.specs.Sound.{Sound}
 use Rattle.model.specs.Expected.{LandingPad, Compared, Finished, padOf, padsBy, padsFrom, outcome, due, dueBy, firstOf}
 use Rattle.model.specs.OtherStack.{SameLive, withStack}
-use Rattle.model.specs.Demand.{ResumeCall, Admissible, answers, raisedBy, unwindingOf, EveryLanding, Regular}
+use Rattle.model.specs.Demand.{ResumeCall, Kind, answerOf, current, IsRefused, Admissible, Each, Served, unlessRefused, answers, raisedBy, unwindingOf, EveryLanding, Regular}
 use Rattle.model.proofs.Chain.{AllLive, Inv}
 use Rattle.model.proofs.Live.{same-live}
 use Rattle.model.proofs.Theorem.{every-landing}
@@ -79,6 +83,31 @@ pub then-finished : (m : Machine) (t : Throw) (exception : ℕ) → EveryLanding
 then-finished m t exception every cs admissible k past less =
     ap (λ (gs : List Compared). getElem? gs k) (every .lands cs admissible .1)
     ∙ first-finished (length (answers (archOf m) cs)) (due m t) k past less
+
+-- a list of calls of one kind
+module _ (Of : Kind) where
+  -- is one that demand 3 for that kind speaks of
+  pub each-admissible : (cs : List ResumeCall) (u : Unwinding) → Each Of u cs → Admissible Of u cs
+  each-admissible [] u e = tt
+  each-admissible (c ∷ cs) u e = (inl (e .0), each-admissible cs (current u c) (e .1))
+
+  -- and where none of that kind is refused, each call answers
+  each-answers : (a : Arch) (cs : List ResumeCall) (u : Unwinding) → Each Of u cs → Served Of u cs → length (answers a cs) ≡ length cs
+  each-answers a [] u e s = refl
+  each-answers a (c ∷ cs) u e s = go (answerOf c) refl (each-answers a cs (current u c) (e .1) (s .1))
+    where
+      go : (o : Outcome Cleaned) → answerOf c ≡ o → length (answers a cs) ≡ length cs →
+          length (unlessRefused a (answerOf c) (answers a cs)) ≡ suc (length cs)
+      go (Refused n) is rest = absurd (s .0 (e .0) (subst IsRefused (sym is) tt))
+      go (Answer x) is rest = rw is (ap suc rest)
+
+  -- so as many landings are given as there are calls, then finished
+  pub all-given : (m : Machine) (t : Throw) (exception : ℕ) → EveryLanding Of m t exception → (cs : List ResumeCall) →
+      Each Of (unwindingOf m t exception) cs → answers (archOf m) cs ≡ firstOf (length cs) (due m t)
+  all-given m t exception every cs e =
+      let u : Unwinding = unwindingOf m t exception in
+      let l = every .lands cs (each-admissible cs u e) in
+      l .1 ∙ ap (λ (n : ℕ). firstOf n (due m t)) (each-answers (archOf m) cs u e (l .0))
 
 -- a stack that agrees on the live slots holds the kept values in them
 other-live : (a : Arch) (stack other : Region) (fs : List Open) → AllLive a stack fs → SameLive stack other fs → AllLive a other fs

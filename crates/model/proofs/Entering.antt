@@ -22,7 +22,7 @@ use Rattle.lookup.specs.Tables.{Entry}
 use Rattle.lookup.specs.Sound.{_∈_}
 use Rattle.frame.specs.Layout.{Pair}
 use Rattle.model.specs.FrameStep.{maxFrames}
-use Rattle.model.specs.Machine.{Open, Tables, Machine, callerInterrupted, column, isRegister, address, inside, clear, written, recordsOf, archOf, lending}
+use Rattle.model.specs.Machine.{Open, Tables, Machine, callerInterrupted, lookedAt, column, isRegister, address, inside, clear, written, recordsOf, archOf, lending}
 use Rattle.model.specs.Described.{isSpilled, described}
 use Rattle.model.specs.Event.{pushes, newFrame, returns, callerDescribed, callAllowed, entered, call}
 use Rattle.model.proofs.Chain.{Kept, Slot, Live, AllLive, Chain, Inner, Inv}
@@ -35,15 +35,14 @@ use Rattle.model.proofs.Slots.{written-holds, written-live, written-len
 
 -- the callers of the frame that a call opens are a chain from its kept file on
 callers :
-    (ts : Tables) (file : List ℕ) (new : Open) (ret : ℕ) → pc (new .kept) ≡ ret → (fs : List Open) → returns fs ret ≡ true →
+    (ts : Tables) (file : List ℕ) (new : Open) (ret : ℕ) → pc (new .kept) ≡ ret → (fs : List Open) → returns fs new ret ≡ true →
     callerDescribed ts fs new ret ≡ true → Inner ts file fs → Chain ts false (callerInterrupted new) (new .kept) fs
-unfolding callerInterrupted
 callers ts file new ret is [] back out inner = is ∙ eqb-true ret 0 back
 callers ts file new ret is (f ∷ fs) back out inner =
-    let (above, held) = both (ltb 0 ret) (holds (f .entry .function) (ret - 1)) back in
+    let (above, held) = both (ltb 0 ret) (holds (f .entry .function) (lookedAt (callerInterrupted new) ret)) back in
     let a : Arch = numbers (ts .arch) in
     let kept : List ℕ = new .kept in
-    let (fits, low) = both (described ts f kept (callerInterrupted new) (ret - 1)) (ltb (sp a kept) (f .cfa)) out in
+    let (fits, low) = both (described ts f kept (callerInterrupted new) (lookedAt (callerInterrupted new) ret)) (ltb (sp a kept) (f .cfa)) out in
     let lower : sp a kept < f .cfa = ltb-true (sp a kept) (f .cfa) low in (
       record {
         kept = inner .0;
@@ -135,7 +134,7 @@ module _ (m : Machine) (e : Entry) (ret : ℕ) (i : Inv m) where
             known = i .known;
             accepted =
                 by-test (λ (s : Region). opens (lending (m .tables) s) ≡ true) (pushes a) _ (m .stack)
-                (λ p. written-lent (m .tables) (m .stack) top _ (within p) (i .accepted)) (λ p. i .accepted);
+                (λ p. written-lent (m .stack) top _ (within p) (m .tables) (i .accepted)) (λ p. i .accepted);
             bytes = i .bytes;
             wide = next .wide;
             values = next .below;
@@ -143,7 +142,7 @@ module _ (m : Machine) (e : Entry) (ret : ℕ) (i : Inv m) where
             live = (
               new-live,
               by-test (λ (s : Region). AllLive a s (m .frames)) (pushes a) (written (m .stack) top ret) (m .stack)
-                  (λ p. written-live a (m .stack) top ret (within p) (m .frames) (free p) (i .live)) (λ p. i .live),
+                  (λ p. written-live (m .stack) top ret (within p) a (m .frames) (free p) (i .live)) (λ p. i .live),
             );
             inner = (new-kept isRecord above, (calling-sp (m .tables .arch) file good ret, chain));
           }
@@ -160,7 +159,7 @@ call-allowed m e ret isRecord i g =
     let caller : List Bool = callerDescribed (m .tables) (m .frames) opened ret ∷ ltb (length (m .frames)) maxFrames ∷ [] in
     let room : List Bool = (not (pushes a) || inside (m .stack) top) ∷ (not (pushes a) || clear top (m .frames)) ∷ [] in
     let rest : List Bool = ltb 0 (sp a (m .registers)) ∷ room ++ (ltb ret (2 ^ a .addressBits) ∷ caller) in
-    let (back, (above, (within, (free, (fits, (out, (few, _))))))) = each (returns (m .frames) ret) rest g in
+    let (back, (above, (within, (free, (fits, (out, (few, _))))))) = each (returns (m .frames) opened ret) rest g in
     let below = ltb-true ret (2 ^ a .addressBits) fits in
     let is : pc (opened .kept) ≡ ret = kept-pc (m .tables .arch) (m .registers) (good m e ret i) ret (small m e ret i below) in
     entered-keeps m e ret i below (asked (pushes a) (inside (m .stack) top) within) isRecord

@@ -20,6 +20,12 @@ from-number zero (g ∷ fs) (suc k) f least at = List·Memᴰ·tail (from-number
 from-number (suc n) (g ∷ fs) zero f least at = absurd (omega arith)
 from-number (suc n) (g ∷ fs) (suc k) f least at = from-number n fs k f (omega arith) at
 
+-- one of those from number n on is one of them all
+pub from-drop : (n : ℕ) (fs : List Open) (f : Open) → List·Memᴰ f (drop n fs) → List·Memᴰ f fs
+from-drop zero fs f i = i
+from-drop (suc n) [] f i = absurd (List·Memᴰ·not-nil i)
+from-drop (suc n) (g ∷ fs) f i = List·Memᴰ·tail (from-drop n fs f i)
+
 -- the live slots of one of the frames
 pub live-in : (a : Arch) (r : Region) (fs : List Open) → AllLive a r fs → (f : Open) → List·Memᴰ f fs → Live a r f
 live-in a r [] live f i = absurd (List·Memᴰ·not-nil i)

@@ -1,4 +1,4 @@
--- Demand 3 call by call: what the contracts of `unwind` and `resume` promise. Assumes nothing.
+-- Demand 3 call by call: what the contracts of `raise`, `resume` and `unwind` promise. Assumes nothing.
 use mathlib.Core.Bool.{Bool, true}
 use mathlib.Core.List.{List, [], _∷_}
 use mathlib.Core.Logic.{⊎-elim}
@@ -6,22 +6,22 @@ use mathlib.Core.Path.{_≡_, refl, sym, _∙_, ap, subst}
 use Prim.Native.Nat.{ℕ, zero, suc}
 use lib.ListN.{length, getD}
 use Rattle.failure.specs.Outcome.{Outcome, Refused, Answer}
-use Rattle.mem.specs.Memory.{Lent}
+use Rattle.mem.specs.Memory.{Region, Lent}
 use Rattle.mem.specs.Opening.{opens}
 use Rattle.model.specs.declared.Unwinding.{Unwinding}
 use Rattle.model.specs.Cleanup.{Cleaned}
 use Rattle.model.specs.Unwinding.{frame0, raise, raised, resume, resumed}
 use Rattle.model.specs.Machine.{Machine, archOf, lentBy}
-use Rattle.model.specs.Throw.{Throw, throwAllowed}
+use Rattle.model.specs.Throw.{throwAllowed}
 use Rattle.model.specs.Sound.{SoundTables, Sound}
 use Rattle.model.specs.Expected.{LandingPad, Compared, Finished, outcome, due, firstOf}
-use Rattle.model.specs.OtherStack.{withStack}
-use Rattle.model.specs.Demand.{ResumeCall, answerOf, regular, current, currentBy, IsRefused, Admissible, answers, raisedBy, unwindingOf}
+use Rattle.model.specs.OtherStack.{SameLive, withStack}
+use Rattle.model.specs.Demand.{ResumeCall, answerOf, callOf, current, IsRefused, Admissible, answers, raisedBy, unwindingOf}
 use Rattle.model.specs.LiveStack.{Usable}
-use Rattle.model.specs.Call.{after, currentAfter, nth, Gives, Thrown, machineAt, AtThrow, Promised, GivesNext}
+use Rattle.model.specs.Call.{after, currentAfter, nth, comparedAs, Thrown, machineAt, AtThrow, Throws, Sweeps, GivesNext}
 use Rattle.model.proofs.Chain.{Inv}
-use Rattle.model.proofs.Calls.{Due, Serves, serves}
-use Rattle.model.proofs.Usable.{regular-usable, own-live}
+use Rattle.model.proofs.Calls.{current-answered, current-refused, Due, Serves, serves}
+use Rattle.model.proofs.Usable.{own-live, regular-usable}
 use Rattle.model.proofs.Corollaries.{other-inv, other-allowed, other-sound}
 use Rattle.model.proofs.Steps.{steps-inv}
 use Rattle.model.proofs.Theorem.{walks, throws, starts}
@@ -39,8 +39,10 @@ module _ (m : Machine) (i : Inv m) (tables : SoundTables (m .tables)) where
   served u ls c g d = serves m (i .known) (i .live) (walks m i tables) u ls c g d
 
   -- and gives the first of those due
-  now-given : (u : Unwinding) (ls : List LandingPad) (c : ResumeCall) → Serves m u ls c → Gives (archOf m) (answerOf c) (nth 0 ls)
-  now-given u ls c s = rw (s .is) (sym (ap (λ (gs : List Compared). getD gs 0 Finished) (s .next 0)) ∙ nth-first 0 ls)
+  now-given : (u : Unwinding) (ls : List LandingPad) (c : ResumeCall) → Serves m u ls c →
+      comparedAs (archOf m) (answerOf c) ≡ Answer (nth 0 ls)
+  now-given u ls c s =
+      rw (s .is) (ap Answer (sym (ap (λ (gs : List Compared). getD gs 0 Finished) (s .next 0)) ∙ nth-first 0 ls))
 
   -- number n of the rest is number n + 1
   next-nth : (n : ℕ) (u : Unwinding) (ls : List LandingPad) (c : ResumeCall) → (s : Serves m u ls c) → nth n (s .rest) ≡ nth (suc n) ls
@@ -49,25 +51,25 @@ module _ (m : Machine) (i : Inv m) (tables : SoundTables (m .tables)) where
       (sym (ap (λ (gs : List Compared). getD gs (suc n) Finished) (s .next (suc n))) ∙ nth-first (suc n) ls)
 
   -- a regular call is served
-  regular-served : (u : Unwinding) (ls : List LandingPad) → Due m u ls → Serves m u ls (regular m u)
-  regular-served u ls d = served u ls (regular m u) (regular-usable m i u) d
+  regular-served : (u : Unwinding) (ls : List LandingPad) → Due m u ls → Serves m u ls (callOf m u)
+  regular-served u ls d = served u ls (callOf m u) (regular-usable m i u) d
 
-  -- call number n from an unwinding on gives this, where each is lent what the machine lends
-  abbrev GivenBy : ℕ → Unwinding → Compared → Type 0
-  GivenBy n u g = Gives (archOf m) (answerOf (regular m (after n (lentBy m) (m .tables .arch) u))) g
+  -- call number n from an unwinding on, where each is lent what the machine lends
+  abbrev given : ℕ → Unwinding → Outcome Compared
+  given n u = comparedAs (archOf m) (answerOf (callOf m (after n (lentBy m) (m .tables .arch) u)))
 
   -- after a call that is served
-  later-given : (n : ℕ) (u : Unwinding) (ls : List LandingPad) → (s : Serves m u ls (regular m u)) →
-      GivenBy n (resumed u (Answer (s .answer))) (nth n (s .rest)) → GivenBy (suc n) u (nth (suc n) ls)
+  later-given : (n : ℕ) (u : Unwinding) (ls : List LandingPad) → (s : Serves m u ls (callOf m u)) →
+      given n (resumed u (Answer (s .answer))) ≡ Answer (nth n (s .rest)) → given (suc n) u ≡ Answer (nth (suc n) ls)
   unfolding answerOf
   later-given n u ls s g =
       let is : resume (lentBy m) (m .tables .arch) u ≡ Answer (s .answer) = s .is in
-      rw is (subst (GivenBy n (resumed u (Answer (s .answer)))) (next-nth n u ls (regular m u) s) g)
+      rw is (g ∙ ap Answer (next-nth n u ls (callOf m u) s))
 
-  gives : (n : ℕ) (u : Unwinding) (ls : List LandingPad) → Due m u ls → GivenBy n u (nth n ls)
-  gives zero u ls d = now-given u ls (regular m u) (regular-served u ls d)
+  gives : (n : ℕ) (u : Unwinding) (ls : List LandingPad) → Due m u ls → given n u ≡ Answer (nth n ls)
+  gives zero u ls d = now-given u ls (callOf m u) (regular-served u ls d)
   gives (suc n) u ls d =
-      let s : Serves m u ls (regular m u) = regular-served u ls d in
+      let s : Serves m u ls (callOf m u) = regular-served u ls d in
       later-given n u ls s (gives n (resumed u (Answer (s .answer))) (s .rest) (s .after))
 
   -- what is due after a list of calls: the first of it is the one after those that the calls gave
@@ -77,28 +79,21 @@ module _ (m : Machine) (i : Inv m) (tables : SoundTables (m .tables)) where
     pub is : nth 0 rest ≡ nth (length (answers (archOf m) cs)) ls
 
   -- after a call that is served, and the others
-  left-served : (c : ResumeCall) (cs : List ResumeCall) (u : Unwinding) (ls : List LandingPad) → c .unwinding ≡ u → (s : Serves m u ls c) →
-      (current u c ≡ resumed u (Answer (s .answer)) → Left (current u c) (s .rest) cs) → Left u ls (c ∷ cs)
-  unfolding current
-  left-served c cs u ls e s rest =
-      let is : answerOf c ≡ Answer (s .answer) = s .is in
-      let same : currentBy u (c .unwinding) (answerOf c) ≡ resumed u (Answer (s .answer)) =
-      rw is (ap (λ (v : Unwinding). resumed v (Answer (s .answer))) e) in
-      let later : Left (current u c) (s .rest) cs = rest same in
+  left-served : (c : ResumeCall) (cs : List ResumeCall) (u : Unwinding) (ls : List LandingPad) → (s : Serves m u ls c) →
+      Left (current u c) (s .rest) cs → Left u ls (c ∷ cs)
+  left-served c cs u ls s later =
       record {
         rest = later .rest;
         due = later .due;
-        is = later .is ∙ (next-nth (length (answers (archOf m) cs)) u ls c s ∙ rw is);
+        is = later .is ∙ (next-nth (length (answers (archOf m) cs)) u ls c s ∙ rw (s .is));
       }
 
   -- a call that is refused changes nothing
   left-refused : (c : ResumeCall) (cs : List ResumeCall) (u : Unwinding) (ls : List LandingPad) → (o : Outcome Cleaned) → answerOf c ≡ o →
       IsRefused o → (current u c ≡ u → Left (current u c) ls cs) → Left u ls (c ∷ cs)
-  unfolding current
   left-refused c cs u ls (Answer x) is refused rest = absurd refused
   left-refused c cs u ls (Refused n) is refused rest =
-      let same : currentBy u (c .unwinding) (answerOf c) ≡ u = rw is in
-      let later : Left (current u c) ls cs = rest same in
+      let later : Left (current u c) ls cs = rest (current-refused u c n is) in
       record { rest = later .rest; due = later .due; is = later .is ∙ rw is }
 
   -- every list of calls, each usable or refused
@@ -108,38 +103,66 @@ module _ (m : Machine) (i : Inv m) (tables : SoundTables (m .tables)) where
       ⊎-elim
       (λ (g : Usable m u c).
       let s : Serves m u ls c = served u ls c g d in
-      left-served c cs u ls (ap (λ (x : ResumeCall). x .unwinding) (g .is)) s
-      (λ e. left cs (current u c) (s .rest) (subst (λ (v : Unwinding). Due m v (s .rest)) (sym e) (s .after)) (a .1)))
+      let e = current-answered u c (s .answer) (ap (λ (x : ResumeCall). x .unwinding) (g .is)) (s .is) in
+      left-served c cs u ls s (left cs (current u c) (s .rest) (subst (λ (v : Unwinding). Due m v (s .rest)) (sym e) (s .after)) (a .1)))
       (λ (r : IsRefused (answerOf c)).
       left-refused c cs u ls (answerOf c) refl r
       (λ e. left cs (current u c) ls (subst (λ (v : Unwinding). Due m v ls) (sym e) d) (a .1)))
       (a .0)
 
--- the throw and call number n, of what a machine has
-at-throw : (m : Machine) → Inv m → (t : Throw) → throwAllowed m t ≡ true → Sound m t → (exception n : ℕ) →
-    (raisedBy m t ≡ Answer (outcome m t))
-    × Gives (archOf m) (answerOf (regular m (after n (lentBy m) (m .tables .arch) (unwindingOf m t exception)))) (nth n (due m t))
-at-throw m i t allowed s exception n = (
-  throws m i t allowed s,
-  gives m i (s .tables) n (unwindingOf m t exception) (due m t) (starts m i t allowed s exception),
-)
+-- a machine at such a throw, with another stack that has its live slots
+module _ (x : Thrown) (stack : Region) (opened : opens (lentBy (withStack (machineAt x) stack)) ≡ true)
+    (same : SameLive (machineAt x .stack) stack (machineAt x .frames)) where
+  abbrev other : Machine
+  other = withStack (machineAt x) stack
+
+  inv : Inv (machineAt x)
+  inv = steps-inv (x .start) (x .fresh) (x .events)
+
+  inv-other : Inv other
+  inv-other = other-inv (machineAt x) inv stack opened same
+
+  allowed : throwAllowed other (x .throw) ≡ true
+  allowed = other-allowed (machineAt x) inv stack opened same (x .throw) (x .allowed)
+
+  sound : Sound other (x .throw)
+  sound = other-sound (machineAt x) inv stack opened same (x .throw) (x .sound)
+
+  -- the throw
+  throws-over : raisedBy other (x .throw) ≡ Answer (outcome (machineAt x) (x .throw))
+  unfolding outcome
+  throws-over = throws other inv-other (x .throw) allowed sound
+
+  -- call number n
+  sweeps-over : (exception n : ℕ) →
+      given other inv-other (x .sound .tables) n (unwindingOf other (x .throw) exception) ≡ Answer (nth n (due (machineAt x) (x .throw)))
+  unfolding outcome due
+  sweeps-over exception n =
+      gives other inv-other (x .sound .tables) n (unwindingOf other (x .throw) exception) (due other (x .throw))
+      (starts other inv-other (x .throw) allowed sound exception)
+
+-- what is lent opens
+opened-by : (l k : Lent) → l ≡ k → opens l ≡ true → opens k ≡ true
+opened-by l k e h = subst (λ (x : Lent). opens x ≡ true) e h
+
+-- the contract of `raise`
+pub raise-throws : (l : Lent) (arch : ℕ) (file : List ℕ) (pc : ℕ) (interrupted : Bool) →
+    Throws l arch file pc interrupted (raise l arch file pc interrupted)
+unfolding raisedBy
+raise-throws l arch file pc interrupted a =
+    rw (a .isLent, a .isArch, a .isFile, a .isPc, a .isInterrupted)
+    (throws-over (a .thrown) (a .stack) (opened-by l _ (a .isLent) (a .accepted)) (a .same))
 
 -- the contract of `unwind`
-pub promised : (l : Lent) (arch : ℕ) (file : List ℕ) (pc : ℕ) (interrupted : Bool) (exception n : ℕ) →
-    Promised l arch file pc interrupted n (raise l arch file pc interrupted)
+pub unwind-sweeps : (l : Lent) (arch : ℕ) (file : List ℕ) (pc : ℕ) (interrupted : Bool) (exception n : ℕ) →
+    Sweeps l arch file pc interrupted n
     (resume l arch (after n l arch (raised (frame0 file pc interrupted) exception (raise l arch file pc interrupted))))
-unfolding raisedBy unwindingOf answerOf outcome due
-promised l arch file pc interrupted exception n a =
-    let x : Thrown = a .thrown in
-    let m : Machine = machineAt x in
-    let i : Inv m = steps-inv (x .start) (x .fresh) (x .events) in
-    let opened : opens (lentBy (withStack m (a .stack))) ≡ true = subst (λ (k : Lent). opens k ≡ true) (a .isLent) (a .accepted) in
+unfolding raisedBy unwindingOf answerOf
+unwind-sweeps l arch file pc interrupted exception n a =
     rw (a .isLent, a .isArch, a .isFile, a .isPc, a .isInterrupted)
-    (at-throw (withStack m (a .stack)) (other-inv m i (a .stack) opened (a .same)) (x .throw)
-    (other-allowed m i (a .stack) opened (a .same) (x .throw) (x .allowed))
-    (other-sound m i (a .stack) opened (a .same) (x .throw) (x .sound)) exception n)
+    (sweeps-over (a .thrown) (a .stack) (opened-by l _ (a .isLent) (a .accepted)) (a .same) exception n)
 
--- it speaks of what the machine itself lends
+-- they speak of what the machine itself has
 pub own-throw : (x : Thrown) →
     AtThrow (lentBy (machineAt x)) (machineAt x .tables .arch) (machineAt x .registers) (x .throw .pc) (x .throw .interrupted)
 own-throw x =
@@ -167,5 +190,4 @@ gives-next c a =
     left m i (x .sound .tables) (a .before) u (due m (x .throw)) (starts m i (x .throw) (x .allowed) (x .sound) (a .exception))
     (a .admissible) in
     let v : Unwinding = currentAfter u (a .before) in
-    subst (Gives (archOf m) (answerOf c)) (l .is)
-    (now-given m i (x .sound .tables) v (l .rest) c (served m i (x .sound .tables) v (l .rest) c (a .usable) (l .due)))
+    now-given m i (x .sound .tables) v (l .rest) c (served m i (x .sound .tables) v (l .rest) c (a .usable) (l .due)) ∙ ap Answer (l .is)

@@ -1,4 +1,4 @@
--- Laws of `replaced` and `put`: what is written into bytes stands where it was put, and all else is as it was. Assumes nothing.
+-- Laws of `replaced`: what is put into bytes stands where it was put, and all else is as it was. Assumes nothing.
 use mathlib.Core.Path.{_≡_, sym, _∙_, ap}
 use mathlib.Core.Logic.{_⊎_, inl, inr}
 use mathlib.Core.List.{List, [], _∷_, _++_, append-assoc}
@@ -9,7 +9,7 @@ use lib.ListN.{length, take, drop, length-take, length-drop, length-append, take
 use lib.Seq.{length-take-le, take-append-le, drop-append-le, take-append-seam, drop-at, drop-drop}
 use Rattle.mem.specs.Word.{littleEndian}
 use Rattle.lookup.specs.Field.{word}
-use Rattle.model.specs.Machine.{bytesFor, replaced, put}
+use Rattle.model.specs.Machine.{bytesFor, replaced}
 
 -- n bytes of the first part stand there whatever comes after it
 first-part : (n j : ℕ) (p q : List ℕ) → j + n ≤ length p → take n (drop j (p ++ q)) ≡ take n (drop j p)
@@ -84,18 +84,7 @@ number-back (suc n) v h =
     let less : v / 256 < 256 ^ n = omega (arith, pow-suc 256 n, mod-add-div v 256) in
     omega (arith, number-back n (v / 256) less, mod-add-div v 256)
 
--- a put keeps how many bytes there are
-pub put-length : (bytes : List ℕ) (k v : ℕ) → k + 8 ≤ length bytes → length (put bytes k v) ≡ length bytes
-unfolding put
-put-length bytes k v h = replaced-length bytes (bytesFor 8 v) k h
-
--- the number stands where it was put
-pub put-there : (bytes : List ℕ) (k v : ℕ) → k + 8 ≤ length bytes → v < 2 ^ 64 → word (put bytes k v) k 8 ≡ v
-unfolding put word
-put-there bytes k v h l = ap littleEndian (replaced-there bytes (bytesFor 8 v) k h) ∙ number-back 8 v l
-
--- every other place is as it was
-pub put-apart :
-    (bytes : List ℕ) (k v j : ℕ) → k + 8 ≤ length bytes → (j + 8 ≤ k) ⊎ (k + 8 ≤ j) → word (put bytes k v) j 8 ≡ word bytes j 8
-unfolding put word
-put-apart bytes k v j h away = replaced-apart bytes (bytesFor 8 v) k j h (inr away)
+-- a number put into 8 bytes stands there
+pub number-there : (bytes : List ℕ) (k v : ℕ) → k + 8 ≤ length bytes → v < 2 ^ 64 → word (replaced bytes k (bytesFor 8 v)) k 8 ≡ v
+unfolding word
+number-there bytes k v h l = ap littleEndian (replaced-there bytes (bytesFor 8 v) k h) ∙ number-back 8 v l

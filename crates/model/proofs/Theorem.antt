@@ -16,10 +16,10 @@ use Rattle.lookup.specs.Record.{holds}
 use Rattle.model.specs.FrameStep.{lookedUp}
 use Rattle.model.specs.Search.{Searched, Chosen, Stopped, Ended, search}
 use Rattle.model.specs.Unwinding.{frame0, raise, raised}
-use Rattle.model.specs.Machine.{Open, Machine, lentBy, archOf}
+use Rattle.model.specs.Machine.{Open, Machine, lentBy, archOf, lookedAt}
 use Rattle.model.specs.Described.{described}
 use Rattle.model.specs.Event.{steps}
-use Rattle.model.specs.Throw.{Throw, lookedAt, thrown, throwable, throwAllowed, framesAt}
+use Rattle.model.specs.Throw.{Throw, thrown, throwable, throwAllowed, framesAt}
 use Rattle.model.specs.Sound.{Sound, SoundTables}
 use Rattle.model.specs.Expected.{outcome, due, dueBy, padsFrom}
 use Rattle.model.specs.OtherStack.{withStack}
@@ -76,8 +76,8 @@ module _ (m : Machine) (i : Inv m) where
       go (f ∷ fs) inner e =
           let (above, (held, (fits, _))) =
           each (ltb 0 (t .pc))
-          (holds (f .entry .function) (lookedAt t)
-          ∷ described (m .tables) f (thrown m t) (t .interrupted) (lookedAt t) ∷ [])
+          (holds (f .entry .function) (lookedAt (t .interrupted) (t .pc))
+          ∷ described (m .tables) f (thrown m t) (t .interrupted) (lookedAt (t .interrupted) (t .pc)) ∷ [])
           e in
           let here : pc (thrown m t) ≡ t .pc = thrown-pc t in (
             record {

@@ -34,12 +34,12 @@ written-keeps : (m : Machine) (x v : ℕ) → Free m x → Inv m → Inv (withWr
 written-keeps m x v place inv =
     record {
       known = inv .known;
-      accepted = written-lent (m .tables) (m .stack) x v (place .within) (inv .accepted);
+      accepted = written-lent (m .stack) x v (place .within) (m .tables) (inv .accepted);
       bytes = inv .bytes;
       wide = inv .wide;
       values = inv .values;
       few = inv .few;
-      live = written-live (archOf m) (m .stack) x v (place .within) (m .frames) (place .free) (inv .live);
+      live = written-live (m .stack) x v (place .within) (archOf m) (m .frames) (place .free) (inv .live);
       inner = inv .inner;
     }
 

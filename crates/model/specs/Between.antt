@@ -1,31 +1,22 @@
--- Demand 3 with writes between the calls: landing pads, and all that they call, write to the stack outside the live slots of the frames
+-- Demand 3 with stores between the calls: landing pads, and all that they call, write to the stack outside the live slots of the frames
 -- not yet passed; the host lends the stack as it is.
 use mathlib.Core.Bool.{Bool, true, _&&_}
 use mathlib.Core.List.{List, [], _∷_}
 use mathlib.Core.Path.{_≡_}
-use Prim.Native.Nat.{ℕ, _-_}
+use Prim.Native.Nat.{ℕ}
 use lib.ListN.{length, drop}
 use Rattle.mem.specs.Memory.{Region, size}
 use Rattle.mem.specs.Opening.{apart}
 use Rattle.mem.specs.Place.{holds}
 use Rattle.frame.specs.Layout.{Pair}
 use Rattle.model.specs.declared.Unwinding.{Unwinding}
-use Rattle.model.specs.Machine.{Open, Machine, Fresh, archOf, address, replaced}
+use Rattle.model.specs.Machine.{Open, Machine, Fresh, archOf, address, Store, stored}
 use Rattle.model.specs.Event.{Event, steps}
 use Rattle.model.specs.Throw.{Throw, throwAllowed}
 use Rattle.model.specs.Sound.{Sound}
 use Rattle.model.specs.Expected.{due, firstOf}
 use Rattle.model.specs.OtherStack.{withStack}
-use Rattle.model.specs.Demand.{ResumeCall, regular, current, answers, unwindingOf}
-
--- bytes that are written at an address
-pub record Store : Type 0 where
-  pub address : ℕ
-  pub bytes : List ℕ
-
--- the stack after a store
-unfoldable pub stored : Region → Store → Region
-stored r w = record { base = r .base; bytes = replaced (r .bytes) (w .address - r .base) (w .bytes) }
+use Rattle.model.specs.Demand.{ResumeCall, callOf, current, answers, unwindingOf}
 
 -- a store lies in the stack
 unfoldable pub fitsIn : Region → Store → Bool
@@ -55,17 +46,17 @@ sparesAll r fs (w ∷ ws) = fitsIn r w && spares w fs && sparesAll (stored r w) 
 abbrev pub callsBetween : Machine → Unwinding → Region → List (List Store) → List ResumeCall
 callsBetween m u r [] = []
 callsBetween m u r (ws ∷ wss) =
-    regular (withStack m (storedAll r ws)) u
-    ∷ callsBetween m (current u (regular (withStack m (storedAll r ws)) u)) (storedAll r ws) wss
+    callOf (withStack m (storedAll r ws)) u
+    ∷ callsBetween m (current u (callOf (withStack m (storedAll r ws)) u)) (storedAll r ws) wss
 
--- each of those stores spares the live slots of the frames that are not yet passed by then
+-- each of those stores lies in the stack and spares the live slots of the frames that are not yet passed by then
 abbrev pub SparedBetween : Machine → Unwinding → Region → List (List Store) → Type 0
 SparedBetween m u r [] = Unit
 SparedBetween m u r (ws ∷ wss) =
     (sparesAll r (drop (u .number) (m .frames)) ws ≡ true)
-    × SparedBetween m (current u (regular (withStack m (storedAll r ws)) u)) (storedAll r ws) wss
+    × SparedBetween m (current u (callOf (withStack m (storedAll r ws)) u)) (storedAll r ws) wss
 
--- after a throw, with whatever stores between the calls, from the stack of the throw on: every call answers, and the answers are the
+-- after a throw, with such stores between the calls, from the stack of the throw on: every call answers, and the answers are the
 -- landings due, in order, then finished again and again
 abbrev pub EveryLandingBetween : Machine → Throw → ℕ → Type 0
 EveryLandingBetween m t exception =

@@ -8,7 +8,7 @@ use lib.ListN.{length}
 use Rattle.failure.specs.Outcome.{Outcome, Refused, Answer}
 use Rattle.mem.specs.Memory.{Region, Lent}
 use Rattle.mem.specs.Opening.{opens}
-use Rattle.arch.specs.Arch.{Arch, numbers}
+use Rattle.arch.specs.Arch.{Arch}
 use Rattle.model.specs.declared.Unwinding.{Unwinding}
 use Rattle.model.specs.Search.{Searched}
 use Rattle.model.specs.Cleanup.{Cleaned}
@@ -38,10 +38,10 @@ nth n [] = Finished
 nth zero (l ∷ ls) = Installed l
 nth (suc n) (l ∷ ls) = nth n ls
 
--- a call that is not refused gives this
-abbrev pub Gives : Arch → Outcome Cleaned → Compared → Type 0
-Gives a (Refused n) g = ⊥
-Gives a (Answer x) g = compared a x ≡ g
+-- an outcome of a sweep call as it is compared: its answer, or a refusal
+abbrev pub comparedAs : Arch → Outcome Cleaned → Outcome Compared
+comparedAs a (Refused n) = Refused n
+comparedAs a (Answer x) = Answer (compared a x)
 
 -- a throw that demand 3 speaks of: within the rules, under a sound section, after a list of events from a fresh machine
 pub record Thrown : Type 0 where
@@ -56,7 +56,8 @@ pub record Thrown : Type 0 where
 abbrev pub machineAt : Thrown → Machine
 machineAt x = steps (x .start) (x .events)
 
--- what a throw call is given is what a machine has at such a throw; of its stack, the live slots
+-- what a throw call is given is what the machine has at such a throw; but the stack may be any that opens and has the live slots as the
+-- machine's has them
 pub record AtThrow (l : Lent) (arch : ℕ) (file : List ℕ) (pc : ℕ) (interrupted : Bool) : Type 0 where
   pub thrown : Thrown
   pub stack : Region
@@ -68,13 +69,16 @@ pub record AtThrow (l : Lent) (arch : ℕ) (file : List ℕ) (pc : ℕ) (interru
   pub isPc : pc ≡ thrown .throw .pc
   pub isInterrupted : interrupted ≡ thrown .throw .interrupted
 
--- then the throw answers the machine's outcome, and sweep call number n, after n that are lent the same, gives number n of the landings
--- due, or finished
-abbrev pub Promised : Lent → ℕ → List ℕ → ℕ → Bool → ℕ → Outcome Searched → Outcome Cleaned → Type 0
-Promised l arch file pc interrupted n raised cleaned =
+-- then the throw answers the machine's outcome
+abbrev pub Throws : Lent → ℕ → List ℕ → ℕ → Bool → Outcome Searched → Type 0
+Throws l arch file pc interrupted raised =
+    (a : AtThrow l arch file pc interrupted) → raised ≡ Answer (outcome (machineAt (a .thrown)) (a .thrown .throw))
+
+-- and sweep call number n, after n that are lent the same, gives number n of the landings due, or finished
+abbrev pub Sweeps : Lent → ℕ → List ℕ → ℕ → Bool → ℕ → Outcome Cleaned → Type 0
+Sweeps l arch file pc interrupted n cleaned =
     (a : AtThrow l arch file pc interrupted) →
-    (raised ≡ Answer (outcome (machineAt (a .thrown)) (a .thrown .throw)))
-    × Gives (numbers arch) cleaned (nth n (due (machineAt (a .thrown)) (a .thrown .throw)))
+    comparedAs (archOf (machineAt (a .thrown))) cleaned ≡ Answer (nth n (due (machineAt (a .thrown)) (a .thrown .throw)))
 
 -- a sweep call after such a throw and after a list of calls, each usable or refused: it is usable
 pub record AfterThrow (c : ResumeCall) : Type 0 where
@@ -88,5 +92,5 @@ pub record AfterThrow (c : ResumeCall) : Type 0 where
 abbrev pub GivesNext : ResumeCall → Outcome Cleaned → Type 0
 GivesNext c cleaned =
     (a : AfterThrow c) →
-    Gives (archOf (machineAt (a .thrown))) cleaned
-    (nth (length (answers (archOf (machineAt (a .thrown))) (a .before))) (due (machineAt (a .thrown)) (a .thrown .throw)))
+    comparedAs (archOf (machineAt (a .thrown))) cleaned
+    ≡ Answer (nth (length (answers (archOf (machineAt (a .thrown))) (a .before))) (due (machineAt (a .thrown)) (a .thrown .throw)))

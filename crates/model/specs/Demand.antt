@@ -30,13 +30,13 @@ pub record ResumeCall : Type 0 where
 unfoldable pub answerOf : ResumeCall → Outcome Cleaned
 answerOf c = resume (c .lent) (c .arch) (c .unwinding)
 
--- the regular call: the throw's architecture, the same bytes at the same addresses, and the current unwinding
-abbrev pub regular : Machine → Unwinding → ResumeCall
-regular m u = record { arch = m .tables .arch; lent = lentBy m; unwinding = u }
+-- the call that gets a machine's architecture and all that it lends, and an unwinding
+abbrev pub callOf : Machine → Unwinding → ResumeCall
+callOf m u = record { arch = m .tables .arch; lent = lentBy m; unwinding = u }
 
--- a call is that one
+-- a regular call: the throw's architecture, the same bytes at the same addresses, and the current unwinding
 abbrev pub Regular : Machine → Unwinding → ResumeCall → Type 0
-Regular m u c = c ≡ regular m u
+Regular m u c = c ≡ callOf m u
 
 -- the current unwinding after a call that was given v and came to that: what it returned, unless it was refused
 abbrev pub currentBy : Unwinding → Unwinding → Outcome Cleaned → Unwinding
@@ -60,6 +60,11 @@ Kind = Unwinding → ResumeCall → Type 0
 abbrev pub Admissible : Kind → Unwinding → List ResumeCall → Type 0
 Admissible Of u [] = Unit
 Admissible Of u (c ∷ cs) = (Of u c ⊎ IsRefused (answerOf c)) × Admissible Of (current u c) cs
+
+-- every call of the list is of a kind
+abbrev pub Each : Kind → Unwinding → List ResumeCall → Type 0
+Each Of u [] = Unit
+Each Of u (c ∷ cs) = Of u c × Each Of (current u c) cs
 
 -- no call of the list that is of a kind is refused
 abbrev pub Served : Kind → Unwinding → List ResumeCall → Type 0
@@ -92,8 +97,8 @@ unfoldable pub unwindingOf : Machine → Throw → ℕ → Unwinding
 unwindingOf m t exception = raised (frame0 (m .registers) (t .pc) (t .interrupted)) exception (raisedBy m t)
 
 -- every landing, and no other, after a throw: it answers the first catch's number and sp, or 3, or 5; and for every list of sweep
--- calls, each of a kind or refused, none of that kind is refused, and the answers are as many as there are of: the landings due, in
--- order, then finished again and again
+-- calls, each of a kind or refused, none of that kind is refused, and the answers, however many, are the first of: the landings due,
+-- in order, then finished again and again
 pub record EveryLanding (Of : Kind) (m : Machine) (t : Throw) (exception : ℕ) : Type 0 where
   pub throws : raisedBy m t ≡ Answer (outcome m t)
   pub lands : (cs : List ResumeCall) → Admissible Of (unwindingOf m t exception) cs →

@@ -12,7 +12,7 @@ use Rattle.arch.specs.File.{sp, setSp, setPc, pcColumn}
 use Rattle.lookup.specs.Record.{holds}
 use Rattle.lookup.specs.Tables.{Entry, named}
 use Rattle.frame.specs.Layout.{Pair}
-use Rattle.model.specs.Machine.{Open, Tables, Machine, archOf, recordsOf, callerInterrupted, column, isRegister, value, address, inside, clear, written}
+use Rattle.model.specs.Machine.{Open, Tables, Machine, archOf, recordsOf, callerInterrupted, lookedAt, column, isRegister, value, address, inside, clear, written}
 use Rattle.model.specs.Described.{isSpilled, described}
 
 -- a record is named by its chunk and its index there; the numbers in an event are any natural numbers
@@ -46,22 +46,23 @@ newFrame a file e ret =
       spilled = if pushes a then record { reg = a .ra; slot = 1 } ∷ [] else [];
     }
 
--- ret is 0 with no frame open, else above 0, ret - 1 lying in the caller's record
-abbrev pub returns : List Open → ℕ → Bool
-returns [] ret = eqb ret 0
-returns (f ∷ fs) ret = ltb 0 ret && holds (f .entry .function) (ret - 1)
+-- ret is 0 with no frame open, else above 0, ret - 1, where the caller is looked up, lying in the caller's record
+abbrev pub returns : List Open → Open → ℕ → Bool
+returns [] new ret = eqb ret 0
+returns (f ∷ fs) new ret = ltb 0 ret && holds (f .entry .function) (lookedAt (callerInterrupted new) ret)
 
 -- a caller is described after this, its registers being the kept file of the frame that it opens, and its sp is below its own CFA
 abbrev pub callerDescribed : Tables → List Open → Open → ℕ → Bool
 callerDescribed ts [] new ret = true
 callerDescribed ts (f ∷ fs) new ret =
-    described ts f (new .kept) (callerInterrupted new) (ret - 1) && ltb (sp (numbers (ts .arch)) (new .kept)) (f .cfa)
+    described ts f (new .kept) (callerInterrupted new) (lookedAt (callerInterrupted new) ret)
+    && ltb (sp (numbers (ts .arch)) (new .kept)) (f .cfa)
 
 -- the rules of a call, one test a line: ret; CFA above 0; a pushed address lies in the stack; it meets no live slot; ret below 2^48
 -- (on x86-64 below 2^64, which its place in a record gives); the caller is described; at most 1,024 frames
 unfoldable pub callAllowed : Machine → Entry → ℕ → Bool
 callAllowed m e ret =
-    returns (m .frames) ret
+    returns (m .frames) (newFrame (archOf m) (m .registers) e ret) ret
     && ltb 0 (sp (archOf m) (m .registers))
     && (not (pushes (archOf m)) || inside (m .stack) (address (sp (archOf m) (m .registers)) 1))
     && (not (pushes (archOf m)) || clear (address (sp (archOf m) (m .registers)) 1) (m .frames))

@@ -66,7 +66,7 @@ abbrev pub functionOf : Option Found → Option Record
 functionOf none = none
 functionOf (some x) = some (x .function)
 
--- what describes the frame that is looked up at an address: a record of the section
+-- what describes the frame that is looked up at an address: a record of the section, or none
 unfoldable pub find : Lent → ℕ → ℕ → Outcome (Option Record)
 find l arch at = do
   found ← lookup (sectionOf (l .regions) .bytes) (sectionOf (l .regions) .base) at arch

@@ -10,7 +10,7 @@ use Rattle.mem.specs.Opening.{opens}
 use Rattle.model.specs.declared.Unwinding.{Unwinding}
 use Rattle.model.specs.Machine.{Open, Machine, lentBy}
 use Rattle.model.specs.OtherStack.{SameSlots, withStack}
-use Rattle.model.specs.Demand.{ResumeCall, regular, Demand3For}
+use Rattle.model.specs.Demand.{ResumeCall, callOf, Demand3For}
 
 -- the live slots of the open frames that an unwinding has yet to pass, from its own number up to the chosen one, are the same in
 -- another stack
@@ -22,7 +22,7 @@ SameAhead m u other =
 -- frame was chosen, the live slots ahead are as they were at the throw
 pub record Usable (m : Machine) (u : Unwinding) (c : ResumeCall) : Type 0 where
   pub stack : Region
-  pub is : c ≡ regular (withStack m stack) u
+  pub is : c ≡ callOf (withStack m stack) u
   pub accepted : opens (lentBy (withStack m stack)) ≡ true
   pub same : u .chosen ≡ true → SameAhead m u stack
 

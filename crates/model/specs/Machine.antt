@@ -5,6 +5,7 @@ use mathlib.Core.Path.{_≡_}
 use Prim.Native.Nat.{ℕ, zero, suc, _+_, _-_, _*_, _/_, _%_, _^_, _<_}
 use lib.Dec.{ltb}
 use lib.ListN.{length, getD, take, drop}
+use Rattle.failure.specs.Choice.{if_then_else_}
 use Rattle.failure.specs.Outcome.{Outcome, Refused, Answer}
 use Rattle.mem.specs.Memory.{Region, Memory, Lent, Bytes, size}
 use Rattle.mem.specs.Opening.{opens}
@@ -26,6 +27,10 @@ pub record Open : Type 0 where
 unfoldable pub callerInterrupted : Open → Bool
 callerInterrupted f = false
 
+-- the address that a frame is looked up at: its pc - 1, or its pc if it is interrupted
+abbrev pub lookedAt : Bool → ℕ → ℕ
+lookedAt interrupted pc = if interrupted then pc else pc - 1
+
 -- what no event changes: the architecture and the section
 pub record Tables : Type 0 where
   pub arch : ℕ
@@ -43,19 +48,19 @@ pub record Machine : Type 0 where
   -- the open frames, the innermost first
   pub frames : List Open
 
--- the numbers of its architecture
+-- the numbers of a machine's architecture
 abbrev pub archOf : Machine → Arch
 archOf m = numbers (m .tables .arch)
 
--- memory with a stack: the section, then the stack
+-- the memory that tables and a stack make: the section, then the stack
 abbrev pub memoryWith : Tables → Region → Memory
 memoryWith ts stack = ts .section ∷ stack ∷ []
 
--- memory as the machine reads its tables: without the stack
+-- the memory in which a machine reads its tables: the section alone
 abbrev pub tablesAlone : Tables → Memory
 tablesAlone ts = ts .section ∷ []
 
--- what a call is lent with a stack
+-- what a call is lent: tables and a stack
 abbrev pub lending : Tables → Region → Lent
 lending ts stack = record { regions = memoryWith ts stack }
 
@@ -122,10 +127,15 @@ bytesFor (suc n) v = v % 256 ∷ bytesFor n (v / 256)
 unfoldable pub replaced : List ℕ → ℕ → List ℕ → List ℕ
 replaced bytes k new = take k bytes ++ (new ++ drop (k + length new) bytes)
 
--- the bytes with the 8 from offset k on set to those of a number
-unfoldable pub put : List ℕ → ℕ → ℕ → List ℕ
-put bytes k v = replaced bytes k (bytesFor 8 v)
+-- bytes that are stored at an address
+pub record Store : Type 0 where
+  pub address : ℕ
+  pub bytes : List ℕ
 
--- the region with a number written at an address
+-- the region after a store that lies in it
+unfoldable pub stored : Region → Store → Region
+stored r w = record { base = r .base; bytes = replaced (r .bytes) (w .address - r .base) (w .bytes) }
+
+-- the region with a number written to the 8 bytes at an address
 unfoldable pub written : Region → ℕ → ℕ → Region
-written r x v = record { base = r .base; bytes = put (r .bytes) (x - r .base) v }
+written r x v = stored r (record { address = x; bytes = bytesFor 8 v })

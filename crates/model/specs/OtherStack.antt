@@ -17,7 +17,7 @@ pub record SameWord (stack other : Region) (x : ℕ) : Type 0 where
 abbrev pub SameSlots : Region → Region → Open → Type 0
 SameSlots stack other f = (p : Pair) → List·Memᴰ p (f .spilled) → SameWord stack other (address (f .cfa) (p .slot))
 
--- and so in each open frame
+-- and so of each of these frames
 abbrev pub SameLive : Region → Region → List Open → Type 0
 SameLive stack other fs = (f : Open) → List·Memᴰ f fs → SameSlots stack other f
 

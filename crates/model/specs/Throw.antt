@@ -15,17 +15,13 @@ use Rattle.program.specs.Run.{run}
 use Rattle.rows.specs.Row.{Found, None}
 use Rattle.rows.specs.Handler.{Entry, entryAt}
 use Rattle.rows.specs.Prefix.{rowsOf, rowAt}
-use Rattle.model.specs.Machine.{Open, Tables, Machine, callerInterrupted, tablesAlone}
+use Rattle.model.specs.Machine.{Open, Tables, Machine, callerInterrupted, lookedAt, tablesAlone}
 use Rattle.model.specs.Described.{described}
 
 -- a Throw (pc) or an Interrupt (pc)
 pub record Throw : Type 0 where
   pub pc : ℕ
   pub interrupted : Bool
-
--- the address that a throw is looked up at: pc - 1, or pc for an Interrupt
-abbrev pub lookedAt : Throw → ℕ
-lookedAt t = if t .interrupted then t .pc else t .pc - 1
 
 -- frame 0's registers at its call: those at the throw, with its pc
 abbrev pub thrown : Machine → Throw → List ℕ
@@ -36,8 +32,8 @@ abbrev pub throwable : Machine → Throw → List Open → Bool
 throwable m t [] = false
 throwable m t (f ∷ fs) =
     ltb 0 (t .pc)
-    && holds (f .entry .function) (lookedAt t)
-    && described (m .tables) f (thrown m t) (t .interrupted) (lookedAt t)
+    && holds (f .entry .function) (lookedAt (t .interrupted) (t .pc))
+    && described (m .tables) f (thrown m t) (t .interrupted) (lookedAt (t .interrupted) (t .pc))
 
 -- a throw or interrupt is within the rules
 unfoldable pub throwAllowed : Machine → Throw → Bool
@@ -49,8 +45,8 @@ pub record Standing : Type 0 where
   pub file : List ℕ
   pub interrupted : Bool
 
--- frames with their registers at their calls, and whether each is interrupted: the first one's are given, every other's are the kept
--- file of the call that it made
+-- frames with their registers at their calls: the first one's are given, and whether it is interrupted; every other's are the kept file
+-- of the call that it made, and it is interrupted if the frame that it opened says so
 abbrev pub standing : Bool → List ℕ → List Open → List Standing
 standing interrupted file [] = []
 standing interrupted file (f ∷ fs) =

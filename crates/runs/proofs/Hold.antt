@@ -37,19 +37,20 @@ use Rattle.model.specs.FrameStep.{nextInterrupted, find, callerFile, notAdvanci
 use Rattle.model.specs.Search.{search}
 use Rattle.model.specs.Cleanup.{installPad, clean}
 use Rattle.model.specs.Unwinding.{opened, raise, resume}
-use Rattle.model.specs.Machine.{callerInterrupted, Fresh, column, isRegister, value, inside, meet, replaced, put, written}
+use Rattle.model.specs.Machine.{callerInterrupted, Fresh, column, isRegister, value, inside, meet, replaced, stored, written}
 use Rattle.model.specs.Described.{layoutAt, samePairs, goodFp, fits, described}
 use Rattle.model.specs.Event.{pushes, calling, keptBy, newFrame, notSpNorPc, callAllowed, entered, spillAllowed, changeAllowed, reloadAllowed, writeAllowed}
 use Rattle.model.specs.Throw.{throwAllowed, rows1, rows2, rowsIn, rowOf}
 use Rattle.model.specs.Sound.{wholeTable, goodTable, goodFrame}
 use Rattle.model.specs.Expected.{padOf, outcome, due}
 use Rattle.model.specs.Demand.{answerOf, current, raisedBy, unwindingOf}
-use Rattle.model.specs.Between.{stored, fitsIn}
+use Rattle.model.specs.Between.{fitsIn}
 use Rattle.runs.specs.Scenario.{Holds, labelsRight}
-use Rattle.runs.specs.Overwritten.{HoldsOver, HoldsBetween}
+use Rattle.runs.specs.LiveStack.{overwritten, cut, HoldsOver, HoldsBetween, ThrowsOver, SpokenOf}
 use Rattle.runs.specs.Unusable.{ComeTo, attempts, found, caughtLow, attemptsLow, foundLow}
 use Rattle.runs.proofs.Runs.{fresh-tested, holds-reported}
-use Rattle.runs.proofs.Overwritten.{over-reported, between-tested}
+use Rattle.runs.proofs.LiveStack.{over-reported, between-told}
+use Rattle.runs.proofs.Applied.{throws-over, second}
 use Rattle.runs.specs.Aarch64 as Aarch64
 use Rattle.runs.specs.X86 as X86
 
@@ -64,7 +65,7 @@ x86-fresh = fresh-tested X86.start refl refl refl refl refl refl
 
 -- every scenario holds
 pub aarch64-scenarios : Holds Aarch64.caught × Holds Aarch64.terminated × Holds Aarch64.uncaught × Holds Aarch64.atEntry
-unfolding bounded apart opens Place.holds bytesAt load byteAt ulebAt numbers isKnown columnOf get set overfull entry save formOf decode frameRegs follow act run savedPairs fpPair raSlot badFp loadSlot applyAt apply pastTable leafCfa fpCfa spCfa frameCfa returnAddress setReturn setFrame setCaller stepAt Step.step readAs passes valid checked entryAt leftBreaks rightBreaks judged handler nextDelta matched handler2 rowsOf word stride chunkAt faulty headAt startAt endAt addressOf handlersOf recordAt recordAt2 recordOf holds badRecord chunksFrom chunks records halve leftMeets rightMeets settle Lookup.search inRange searchIn lookup soundTest rowless rowAfter installed searchedCode Reason.rowOf callerFile notAdvancing nextInterrupted find past frameStep search installPad clean opened raise resume callerInterrupted column isRegister value inside meet replaced put written layoutAt samePairs goodFp fits described pushes calling keptBy newFrame notSpNorPc callAllowed entered spillAllowed changeAllowed reloadAllowed writeAllowed throwAllowed rows1 rows2 rowsIn rowOf wholeTable goodTable goodFrame padOf outcome due answerOf current raisedBy unwindingOf
+unfolding bounded apart opens Place.holds bytesAt load byteAt ulebAt numbers isKnown columnOf get set overfull entry save formOf decode frameRegs follow act run savedPairs fpPair raSlot badFp loadSlot applyAt apply pastTable leafCfa fpCfa spCfa frameCfa returnAddress setReturn setFrame setCaller stepAt Step.step readAs passes valid checked entryAt leftBreaks rightBreaks judged handler nextDelta matched handler2 rowsOf word stride chunkAt faulty headAt startAt endAt addressOf handlersOf recordAt recordAt2 recordOf holds badRecord chunksFrom chunks records halve leftMeets rightMeets settle Lookup.search inRange searchIn lookup soundTest rowless rowAfter installed searchedCode Reason.rowOf callerFile notAdvancing nextInterrupted find past frameStep search installPad clean opened raise resume callerInterrupted column isRegister value inside meet replaced stored written layoutAt samePairs goodFp fits described pushes calling keptBy newFrame notSpNorPc callAllowed entered spillAllowed changeAllowed reloadAllowed writeAllowed throwAllowed rows1 rows2 rowsIn rowOf wholeTable goodTable goodFrame padOf outcome due answerOf current raisedBy unwindingOf
 aarch64-scenarios = (
   holds-reported Aarch64.caught aarch64-fresh refl (λ exception. refl),
   holds-reported Aarch64.terminated aarch64-fresh refl (λ exception. refl),
@@ -73,7 +74,7 @@ aarch64-scenarios = (
 )
 
 pub x86-scenarios : Holds X86.caught × Holds X86.terminated × Holds X86.uncaught × Holds X86.inLeaf
-unfolding bounded apart opens Place.holds bytesAt load byteAt ulebAt numbers isKnown columnOf get set overfull entry save formOf decode frameRegs follow act run savedPairs fpPair raSlot badFp loadSlot applyAt apply pastTable leafCfa fpCfa spCfa frameCfa returnAddress setReturn setFrame setCaller stepAt Step.step readAs passes valid checked entryAt leftBreaks rightBreaks judged handler nextDelta matched handler2 rowsOf word stride chunkAt faulty headAt startAt endAt addressOf handlersOf recordAt recordAt2 recordOf holds badRecord chunksFrom chunks records halve leftMeets rightMeets settle Lookup.search inRange searchIn lookup soundTest rowless rowAfter installed searchedCode Reason.rowOf callerFile notAdvancing nextInterrupted find past frameStep search installPad clean opened raise resume callerInterrupted column isRegister value inside meet replaced put written layoutAt samePairs goodFp fits described pushes calling keptBy newFrame notSpNorPc callAllowed entered spillAllowed changeAllowed reloadAllowed writeAllowed throwAllowed rows1 rows2 rowsIn rowOf wholeTable goodTable goodFrame padOf outcome due answerOf current raisedBy unwindingOf
+unfolding bounded apart opens Place.holds bytesAt load byteAt ulebAt numbers isKnown columnOf get set overfull entry save formOf decode frameRegs follow act run savedPairs fpPair raSlot badFp loadSlot applyAt apply pastTable leafCfa fpCfa spCfa frameCfa returnAddress setReturn setFrame setCaller stepAt Step.step readAs passes valid checked entryAt leftBreaks rightBreaks judged handler nextDelta matched handler2 rowsOf word stride chunkAt faulty headAt startAt endAt addressOf handlersOf recordAt recordAt2 recordOf holds badRecord chunksFrom chunks records halve leftMeets rightMeets settle Lookup.search inRange searchIn lookup soundTest rowless rowAfter installed searchedCode Reason.rowOf callerFile notAdvancing nextInterrupted find past frameStep search installPad clean opened raise resume callerInterrupted column isRegister value inside meet replaced stored written layoutAt samePairs goodFp fits described pushes calling keptBy newFrame notSpNorPc callAllowed entered spillAllowed changeAllowed reloadAllowed writeAllowed throwAllowed rows1 rows2 rowsIn rowOf wholeTable goodTable goodFrame padOf outcome due answerOf current raisedBy unwindingOf
 x86-scenarios = (
   holds-reported X86.caught x86-fresh refl (λ exception. refl),
   holds-reported X86.terminated x86-fresh refl (λ exception. refl),
@@ -83,53 +84,84 @@ x86-scenarios = (
 
 -- and the two with version 1 words of the other kind
 pub leaf-scenarios : Holds Aarch64.inLeaf × Holds X86.overUnlinked
-unfolding bounded apart opens Place.holds bytesAt load byteAt ulebAt numbers isKnown columnOf get set overfull entry save formOf decode frameRegs follow act run savedPairs fpPair raSlot badFp loadSlot applyAt apply pastTable leafCfa fpCfa spCfa frameCfa returnAddress setReturn setFrame setCaller stepAt Step.step readAs passes valid checked entryAt leftBreaks rightBreaks judged handler nextDelta matched handler2 rowsOf word stride chunkAt faulty headAt startAt endAt addressOf handlersOf recordAt recordAt2 recordOf holds badRecord chunksFrom chunks records halve leftMeets rightMeets settle Lookup.search inRange searchIn lookup soundTest rowless rowAfter installed searchedCode Reason.rowOf callerFile notAdvancing nextInterrupted find past frameStep search installPad clean opened raise resume callerInterrupted column isRegister value inside meet replaced put written layoutAt samePairs goodFp fits described pushes calling keptBy newFrame notSpNorPc callAllowed entered spillAllowed changeAllowed reloadAllowed writeAllowed throwAllowed rows1 rows2 rowsIn rowOf wholeTable goodTable goodFrame padOf outcome due answerOf current raisedBy unwindingOf
+unfolding bounded apart opens Place.holds bytesAt load byteAt ulebAt numbers isKnown columnOf get set overfull entry save formOf decode frameRegs follow act run savedPairs fpPair raSlot badFp loadSlot applyAt apply pastTable leafCfa fpCfa spCfa frameCfa returnAddress setReturn setFrame setCaller stepAt Step.step readAs passes valid checked entryAt leftBreaks rightBreaks judged handler nextDelta matched handler2 rowsOf word stride chunkAt faulty headAt startAt endAt addressOf handlersOf recordAt recordAt2 recordOf holds badRecord chunksFrom chunks records halve leftMeets rightMeets settle Lookup.search inRange searchIn lookup soundTest rowless rowAfter installed searchedCode Reason.rowOf callerFile notAdvancing nextInterrupted find past frameStep search installPad clean opened raise resume callerInterrupted column isRegister value inside meet replaced stored written layoutAt samePairs goodFp fits described pushes calling keptBy newFrame notSpNorPc callAllowed entered spillAllowed changeAllowed reloadAllowed writeAllowed throwAllowed rows1 rows2 rowsIn rowOf wholeTable goodTable goodFrame padOf outcome due answerOf current raisedBy unwindingOf
 leaf-scenarios = (
   holds-reported Aarch64.inLeaf aarch64-fresh refl (λ exception. refl),
   holds-reported X86.overUnlinked x86-fresh refl (λ exception. refl),
 )
 
--- the first of each holds over a stack that is overwritten. At the first call nothing of a frame is; then the frames passed are, those
--- that landed included: `plain` and `framed`, `old`, and the second `outer`. Then calls that are not usable
+-- the first of each holds over a stack in which all below the frame that comes next is overwritten: at the first call nothing of a frame
+-- is; then the frames passed are, those that landed included
 pub overwritten-scenarios :
-    HoldsOver Aarch64.caught (
+    HoldsOver Aarch64.caught Aarch64.overwritings (
     (true ∷ true ∷ true ∷ true ∷ true ∷ []) ∷
     (false ∷ false ∷ true ∷ true ∷ true ∷ []) ∷
     (false ∷ false ∷ false ∷ true ∷ true ∷ []) ∷
     (false ∷ false ∷ false ∷ false ∷ true ∷ []) ∷
     (false ∷ false ∷ false ∷ false ∷ true ∷ []) ∷ [])
-    × HoldsOver X86.caught (
+    × HoldsOver X86.caught X86.overwritings (
     (true ∷ true ∷ true ∷ true ∷ true ∷ []) ∷
     (false ∷ false ∷ true ∷ true ∷ true ∷ []) ∷
     (false ∷ false ∷ false ∷ true ∷ true ∷ []) ∷
     (false ∷ false ∷ false ∷ false ∷ true ∷ []) ∷
     (false ∷ false ∷ false ∷ false ∷ true ∷ []) ∷ [])
-    × ComeTo X86.caught attempts found
-    × ComeTo caughtLow attemptsLow foundLow
-unfolding bounded apart opens Place.holds bytesAt load byteAt ulebAt numbers isKnown columnOf get set overfull entry save formOf decode frameRegs follow act run savedPairs fpPair raSlot badFp loadSlot applyAt apply pastTable leafCfa fpCfa spCfa frameCfa returnAddress setReturn setFrame setCaller stepAt Step.step readAs passes valid checked entryAt leftBreaks rightBreaks judged handler nextDelta matched handler2 rowsOf word stride chunkAt faulty headAt startAt endAt addressOf handlersOf recordAt recordAt2 recordOf holds badRecord chunksFrom chunks records halve leftMeets rightMeets settle Lookup.search inRange searchIn lookup soundTest rowless rowAfter installed searchedCode Reason.rowOf callerFile notAdvancing nextInterrupted find past frameStep search installPad clean opened raise resume callerInterrupted column isRegister value inside meet replaced put written layoutAt samePairs goodFp fits described pushes calling keptBy newFrame notSpNorPc callAllowed entered spillAllowed changeAllowed reloadAllowed writeAllowed throwAllowed rows1 rows2 rowsIn rowOf wholeTable goodTable goodFrame padOf outcome due answerOf current raisedBy unwindingOf stored
+unfolding bounded apart opens Place.holds bytesAt load byteAt ulebAt numbers isKnown columnOf get set overfull entry save formOf decode frameRegs follow act run savedPairs fpPair raSlot badFp loadSlot applyAt apply pastTable leafCfa fpCfa spCfa frameCfa returnAddress setReturn setFrame setCaller stepAt Step.step readAs passes valid checked entryAt leftBreaks rightBreaks judged handler nextDelta matched handler2 rowsOf word stride chunkAt faulty headAt startAt endAt addressOf handlersOf recordAt recordAt2 recordOf holds badRecord chunksFrom chunks records halve leftMeets rightMeets settle Lookup.search inRange searchIn lookup soundTest rowless rowAfter installed searchedCode Reason.rowOf callerFile notAdvancing nextInterrupted find past frameStep search installPad clean opened raise resume callerInterrupted column isRegister value inside meet replaced written layoutAt samePairs goodFp fits described pushes calling keptBy newFrame notSpNorPc callAllowed entered spillAllowed changeAllowed reloadAllowed writeAllowed throwAllowed rows1 rows2 rowsIn rowOf wholeTable goodTable goodFrame padOf outcome due answerOf current raisedBy unwindingOf stored fitsIn
 overwritten-scenarios = (
-  over-reported Aarch64.caught _ (aarch64-scenarios .0) (λ exception. refl),
-  over-reported X86.caught _ (x86-scenarios .0) (λ exception. refl),
-  λ exception. refl,
-  λ exception. refl,
+  over-reported Aarch64.caught _ _ (aarch64-scenarios .0) refl (λ exception. refl),
+  over-reported X86.caught _ _ (x86-scenarios .0) refl (λ exception. refl),
 )
 
--- the stores reach up to the first live slot of a frame not yet passed, and lie in the frames passed and below
+-- and over one that is cut to the live slots that are needed: those of the outermost frame are not
+pub cut-scenarios :
+    HoldsOver Aarch64.caught Aarch64.cuts (
+    (true ∷ true ∷ true ∷ true ∷ false ∷ []) ∷
+    (false ∷ false ∷ true ∷ true ∷ false ∷ []) ∷
+    (false ∷ false ∷ false ∷ true ∷ false ∷ []) ∷
+    (false ∷ false ∷ false ∷ false ∷ false ∷ []) ∷
+    (false ∷ false ∷ false ∷ false ∷ false ∷ []) ∷ [])
+    × HoldsOver X86.caught X86.cuts (
+    (true ∷ true ∷ true ∷ true ∷ false ∷ []) ∷
+    (false ∷ false ∷ true ∷ true ∷ false ∷ []) ∷
+    (false ∷ false ∷ false ∷ true ∷ false ∷ []) ∷
+    (false ∷ false ∷ false ∷ false ∷ false ∷ []) ∷
+    (false ∷ false ∷ false ∷ false ∷ false ∷ []) ∷ [])
+    × ThrowsOver X86.caught (cut 0x8020 0x8090)
+unfolding bounded apart opens Place.holds bytesAt load byteAt ulebAt numbers isKnown columnOf get set overfull entry save formOf decode frameRegs follow act run savedPairs fpPair raSlot badFp loadSlot applyAt apply pastTable leafCfa fpCfa spCfa frameCfa returnAddress setReturn setFrame setCaller stepAt Step.step readAs passes valid checked entryAt leftBreaks rightBreaks judged handler nextDelta matched handler2 rowsOf word stride chunkAt faulty headAt startAt endAt addressOf handlersOf recordAt recordAt2 recordOf holds badRecord chunksFrom chunks records halve leftMeets rightMeets settle Lookup.search inRange searchIn lookup soundTest rowless rowAfter installed searchedCode Reason.rowOf callerFile notAdvancing nextInterrupted find past frameStep search installPad clean opened raise resume callerInterrupted column isRegister value inside meet replaced written layoutAt samePairs goodFp fits described pushes calling keptBy newFrame notSpNorPc callAllowed entered spillAllowed changeAllowed reloadAllowed writeAllowed throwAllowed rows1 rows2 rowsIn rowOf wholeTable goodTable goodFrame padOf outcome due answerOf current raisedBy unwindingOf stored fitsIn
+cut-scenarios = (
+  over-reported Aarch64.caught _ _ (aarch64-scenarios .0) refl (λ exception. refl),
+  over-reported X86.caught _ _ (x86-scenarios .0) refl (λ exception. refl),
+  throws-over X86.caught (x86-scenarios .0) (cut 0x8020 0x8090) refl refl,
+)
+
+-- the theorems and the contracts speak of them: `applied` and `applied-live` of every scenario, and of the first
+pub spoken-of : SpokenOf Aarch64.caught (overwritten 0x8000) (overwritten 0x8040) × SpokenOf X86.caught (cut 0x8020 0x8080) (cut 0x8050 0x8080)
+spoken-of = (
+  second Aarch64.caught (aarch64-scenarios .0) (overwritten 0x8000) (overwritten 0x8040) _ _ (overwritten-scenarios .0),
+  second X86.caught (x86-scenarios .0) (cut 0x8020 0x8080) (cut 0x8050 0x8080) _ _ (cut-scenarios .1),
+)
+
+-- stores between the calls: after a catch, where nothing is chosen, and after an interrupt. Then calls that are not usable
 pub between-scenarios :
-    HoldsBetween Aarch64.caught (0x8000 ∷ 0x8040 ∷ 0x8060 ∷ 0x8070 ∷ 0x8070 ∷ [])
-    × HoldsBetween X86.caught (0x8010 ∷ 0x8050 ∷ 0x8070 ∷ 0x8080 ∷ 0x8080 ∷ [])
-unfolding bounded apart opens Place.holds bytesAt load byteAt ulebAt numbers isKnown columnOf get set overfull entry save formOf decode frameRegs follow act run savedPairs fpPair raSlot badFp loadSlot applyAt apply pastTable leafCfa fpCfa spCfa frameCfa returnAddress setReturn setFrame setCaller stepAt Step.step readAs passes valid checked entryAt leftBreaks rightBreaks judged handler nextDelta matched handler2 rowsOf word stride chunkAt faulty headAt startAt endAt addressOf handlersOf recordAt recordAt2 recordOf holds badRecord chunksFrom chunks records halve leftMeets rightMeets settle Lookup.search inRange searchIn lookup soundTest rowless rowAfter installed searchedCode Reason.rowOf callerFile notAdvancing nextInterrupted find past frameStep search installPad clean opened raise resume callerInterrupted column isRegister value inside meet replaced put written layoutAt samePairs goodFp fits described pushes calling keptBy newFrame notSpNorPc callAllowed entered spillAllowed changeAllowed reloadAllowed writeAllowed throwAllowed rows1 rows2 rowsIn rowOf wholeTable goodTable goodFrame padOf outcome due answerOf current raisedBy unwindingOf stored fitsIn
+    HoldsBetween X86.caught X86.storesBetween X86.storedBetween
+    × HoldsBetween X86.uncaught ((X86.inGap ∷ []) ∷ [] ∷ []) ((λ r. stored r X86.inGap) ∷ (λ r. stored r X86.inGap) ∷ [])
+    × HoldsBetween X86.inLeaf ((X86.inGap ∷ []) ∷ []) ((λ r. stored r X86.inGap) ∷ [])
+    × ComeTo X86.caught attempts found
+    × ComeTo caughtLow attemptsLow foundLow
+unfolding bounded apart opens Place.holds bytesAt load byteAt ulebAt numbers isKnown columnOf get set overfull entry save formOf decode frameRegs follow act run savedPairs fpPair raSlot badFp loadSlot applyAt apply pastTable leafCfa fpCfa spCfa frameCfa returnAddress setReturn setFrame setCaller stepAt Step.step readAs passes valid checked entryAt leftBreaks rightBreaks judged handler nextDelta matched handler2 rowsOf word stride chunkAt faulty headAt startAt endAt addressOf handlersOf recordAt recordAt2 recordOf holds badRecord chunksFrom chunks records halve leftMeets rightMeets settle Lookup.search inRange searchIn lookup soundTest rowless rowAfter installed searchedCode Reason.rowOf callerFile notAdvancing nextInterrupted find past frameStep search installPad clean opened raise resume callerInterrupted column isRegister value inside meet replaced written layoutAt samePairs goodFp fits described pushes calling keptBy newFrame notSpNorPc callAllowed entered spillAllowed changeAllowed reloadAllowed writeAllowed throwAllowed rows1 rows2 rowsIn rowOf wholeTable goodTable goodFrame padOf outcome due answerOf current raisedBy unwindingOf stored fitsIn
 between-scenarios = (
-  between-tested Aarch64.caught _ (aarch64-scenarios .0) (λ exception. refl),
-  between-tested X86.caught _ (x86-scenarios .0) (λ exception. refl),
+  between-told X86.caught _ _ (x86-scenarios .0) (λ exception. refl),
+  between-told X86.uncaught _ _ (x86-scenarios .2) (λ exception. refl),
+  between-told X86.inLeaf _ _ (x86-scenarios .3) (λ exception. refl),
+  λ exception. refl,
+  λ exception. refl,
 )
 
 -- the events of the first scenario of each are within the rules or against them, as their labels say
 pub labels-right : (labelsRight Aarch64.start (Aarch64.caught .labelled) ≡ true) × (labelsRight X86.start (X86.caught .labelled) ≡ true)
-unfolding bounded apart opens Place.holds bytesAt load byteAt ulebAt numbers isKnown columnOf get set overfull entry save formOf decode frameRegs follow act run savedPairs fpPair raSlot badFp loadSlot applyAt apply pastTable leafCfa fpCfa spCfa frameCfa returnAddress setReturn setFrame setCaller stepAt Step.step readAs passes valid checked entryAt leftBreaks rightBreaks judged handler nextDelta matched handler2 rowsOf word stride chunkAt faulty headAt startAt endAt addressOf handlersOf recordAt recordAt2 recordOf holds badRecord chunksFrom chunks records halve leftMeets rightMeets settle Lookup.search inRange searchIn lookup soundTest rowless rowAfter installed searchedCode Reason.rowOf callerFile notAdvancing nextInterrupted find past frameStep search installPad clean opened raise resume callerInterrupted column isRegister value inside meet replaced put written layoutAt samePairs goodFp fits described pushes calling keptBy newFrame notSpNorPc callAllowed entered spillAllowed changeAllowed reloadAllowed writeAllowed throwAllowed rows1 rows2 rowsIn rowOf wholeTable goodTable goodFrame padOf outcome due answerOf current raisedBy unwindingOf
+unfolding bounded apart opens Place.holds bytesAt load byteAt ulebAt numbers isKnown columnOf get set overfull entry save formOf decode frameRegs follow act run savedPairs fpPair raSlot badFp loadSlot applyAt apply pastTable leafCfa fpCfa spCfa frameCfa returnAddress setReturn setFrame setCaller stepAt Step.step readAs passes valid checked entryAt leftBreaks rightBreaks judged handler nextDelta matched handler2 rowsOf word stride chunkAt faulty headAt startAt endAt addressOf handlersOf recordAt recordAt2 recordOf holds badRecord chunksFrom chunks records halve leftMeets rightMeets settle Lookup.search inRange searchIn lookup soundTest rowless rowAfter installed searchedCode Reason.rowOf callerFile notAdvancing nextInterrupted find past frameStep search installPad clean opened raise resume callerInterrupted column isRegister value inside meet replaced stored written layoutAt samePairs goodFp fits described pushes calling keptBy newFrame notSpNorPc callAllowed entered spillAllowed changeAllowed reloadAllowed writeAllowed throwAllowed rows1 rows2 rowsIn rowOf wholeTable goodTable goodFrame padOf outcome due answerOf current raisedBy unwindingOf
 labels-right = (refl, refl)
 
 -- so are those of the last one
 pub leaf-labels-right : (labelsRight Aarch64.start Aarch64.toLeaf ≡ true) × (labelsRight X86.start X86.toLeaf ≡ true)
-unfolding bounded apart opens Place.holds bytesAt load byteAt ulebAt numbers isKnown columnOf get set overfull entry save formOf decode frameRegs follow act run savedPairs fpPair raSlot badFp loadSlot applyAt apply pastTable leafCfa fpCfa spCfa frameCfa returnAddress setReturn setFrame setCaller stepAt Step.step readAs passes valid checked entryAt leftBreaks rightBreaks judged handler nextDelta matched handler2 rowsOf word stride chunkAt faulty headAt startAt endAt addressOf handlersOf recordAt recordAt2 recordOf holds badRecord chunksFrom chunks records halve leftMeets rightMeets settle Lookup.search inRange searchIn lookup soundTest rowless rowAfter installed searchedCode Reason.rowOf callerFile notAdvancing nextInterrupted find past frameStep search installPad clean opened raise resume callerInterrupted column isRegister value inside meet replaced put written layoutAt samePairs goodFp fits described pushes calling keptBy newFrame notSpNorPc callAllowed entered spillAllowed changeAllowed reloadAllowed writeAllowed throwAllowed rows1 rows2 rowsIn rowOf wholeTable goodTable goodFrame padOf outcome due answerOf current raisedBy unwindingOf
+unfolding bounded apart opens Place.holds bytesAt load byteAt ulebAt numbers isKnown columnOf get set overfull entry save formOf decode frameRegs follow act run savedPairs fpPair raSlot badFp loadSlot applyAt apply pastTable leafCfa fpCfa spCfa frameCfa returnAddress setReturn setFrame setCaller stepAt Step.step readAs passes valid checked entryAt leftBreaks rightBreaks judged handler nextDelta matched handler2 rowsOf word stride chunkAt faulty headAt startAt endAt addressOf handlersOf recordAt recordAt2 recordOf holds badRecord chunksFrom chunks records halve leftMeets rightMeets settle Lookup.search inRange searchIn lookup soundTest rowless rowAfter installed searchedCode Reason.rowOf callerFile notAdvancing nextInterrupted find past frameStep search installPad clean opened raise resume callerInterrupted column isRegister value inside meet replaced stored written layoutAt samePairs goodFp fits described pushes calling keptBy newFrame notSpNorPc callAllowed entered spillAllowed changeAllowed reloadAllowed writeAllowed throwAllowed rows1 rows2 rowsIn rowOf wholeTable goodTable goodFrame padOf outcome due answerOf current raisedBy unwindingOf
 leaf-labels-right = (refl, refl)

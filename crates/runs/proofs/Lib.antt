@@ -1,5 +1,6 @@
 -- The scenarios hold.
 pub mod Rules
 pub mod Runs
-pub mod Overwritten
+pub mod LiveStack
+pub mod Applied
 pub mod Hold

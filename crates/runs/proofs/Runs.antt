@@ -24,13 +24,13 @@ use Rattle.model.specs.Machine.{Tables, Machine, Fresh, archOf, lentBy}
 use Rattle.model.specs.Throw.{Throw, throwAllowed, framesAt}
 use Rattle.model.specs.Sound.{goodFrames, SoundTables}
 use Rattle.model.specs.Expected.{LandingPad, Compared, outcome, due, firstOf}
-use Rattle.model.specs.Demand.{answerOf, regular, Regular, currentBy, current, IsRefused, Admissible, unlessRefused, answers, raisedBy, unwindingOf}
+use Rattle.model.specs.Demand.{answerOf, callOf, Regular, currentBy, current, IsRefused, Admissible, unlessRefused, answers, raisedBy, unwindingOf}
 use Rattle.runs.specs.Scenario.{Scenario, reached, regulars, handedBack, irregular, mixed, answersAfter, callsFor, Holds}
 
 -- regular sweep calls are a list that demand 3 speaks of
 pub regulars-admissible : (n : ℕ) (m : Machine) (u : Unwinding) → Admissible (Regular m) u (regulars n m u)
 regulars-admissible zero m u = tt
-regulars-admissible (suc n) m u = (inl refl, regulars-admissible n m (current u (regular m u)))
+regulars-admissible (suc n) m u = (inl refl, regulars-admissible n m (current u (callOf m u)))
 
 -- a call of architecture 3 is refused
 pub irregular-refused : (m : Machine) (u : Unwinding) → answerOf (irregular m u) ≡ Refused BadOpening
@@ -45,7 +45,7 @@ irregular-refused m u = go (opens (lentBy m))
     go false = refl
 
 -- the current unwinding stays
-irregular-stays : (m : Machine) (u : Unwinding) → current u (irregular m u) ≡ u
+pub irregular-stays : (m : Machine) (u : Unwinding) → current u (irregular m u) ≡ u
 unfolding current
 irregular-stays m u = ap (currentBy u u) (irregular-refused m u)
 
@@ -54,17 +54,17 @@ pub mixed-admissible : (n : ℕ) (m : Machine) (u : Unwinding) → Admissible (R
 mixed-admissible zero m u = (inr (subst IsRefused (sym (irregular-refused m u)) tt), tt)
 mixed-admissible (suc n) m u = (
   inr (subst IsRefused (sym (irregular-refused m u)) tt),
-  subst (λ (v : Unwinding). Admissible (Regular m) v (regular m u ∷ mixed n m (current u (regular m u)))) (sym (irregular-stays m u))
-      (inl refl, mixed-admissible n m (current u (regular m u))),
+  subst (λ (v : Unwinding). Admissible (Regular m) v (callOf m u ∷ mixed n m (current u (callOf m u)))) (sym (irregular-stays m u))
+      (inl refl, mixed-admissible n m (current u (callOf m u))),
 )
 
 -- they change no answer
 pub mixed-same : (a : Arch) (n : ℕ) (m : Machine) (u : Unwinding) → answers a (mixed n m u) ≡ answers a (regulars n m u)
 mixed-same a zero m u = ap (λ (o : Outcome Cleaned). unlessRefused a o []) (irregular-refused m u)
 mixed-same a (suc n) m u =
-    ap (λ (o : Outcome Cleaned). unlessRefused a o (answers a (regular m u ∷ mixed n m (current u (regular m u)))))
+    ap (λ (o : Outcome Cleaned). unlessRefused a o (answers a (callOf m u ∷ mixed n m (current u (callOf m u)))))
     (irregular-refused m u)
-    ∙ ap (unlessRefused a (answerOf (regular m u))) (mixed-same a n m (current u (regular m u)))
+    ∙ ap (unlessRefused a (answerOf (callOf m u))) (mixed-same a n m (current u (callOf m u)))
 
 -- every number is below a bound
 abbrev pub allBelow : ℕ → List ℕ → Bool
@@ -104,13 +104,13 @@ fresh-tested m empty wide values accepted bytes known =
 -- what n regular sweep calls give, each computed once
 abbrev pub answersOnce : Arch → ℕ → Machine → Unwinding → List Compared
 answersOnce a zero m u = []
-answersOnce a (suc n) m u = let o = answerOf (regular m u) in unlessRefused a o (answersOnce a n m (currentBy u u o))
+answersOnce a (suc n) m u = let o = answerOf (callOf m u) in unlessRefused a o (answersOnce a n m (currentBy u u o))
 
 -- they are their answers
 once-answers : (a : Arch) (n : ℕ) (m : Machine) (u : Unwinding) → answers a (regulars n m u) ≡ answersOnce a n m u
 unfolding current
 once-answers a zero m u = refl
-once-answers a (suc n) m u = ap (unlessRefused a (answerOf (regular m u))) (once-answers a n m (current u (regular m u)))
+once-answers a (suc n) m u = ap (unlessRefused a (answerOf (callOf m u))) (once-answers a n m (current u (callOf m u)))
 
 -- all that computing shows of a scenario: of the machine that it reaches and the throw there, if that answers so and n sweep calls follow
 pub record Report : Type 0 where

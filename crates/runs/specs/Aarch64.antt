@@ -7,6 +7,7 @@ use Rattle.model.specs.Machine.{Machine}
 use Rattle.model.specs.Event.{Call, Spill, Change, Reload, Move, Write}
 use Rattle.model.specs.Throw.{Throw}
 use Rattle.model.specs.Expected.{LandingPad}
+use Rattle.runs.specs.LiveStack.{Made, overwritten, cut}
 use Rattle.runs.specs.Scenario.{Labelled, does, against, Scenario, throwAt, interruptAt, landing}
 
 -- the section, at address 1000 hexadecimal; its records by chunk and index, each as it is past its first
@@ -197,3 +198,11 @@ inLeaf =
     landing 2 0x8070 0x4030 (
     119 ∷ 1020 ∷ 1021 ∷ 1022 ∷ 1023 ∷ 1024 ∷ 1025 ∷ 1026 ∷ 1027 ∷ 1028 ∷
     1029 ∷ 0x4010 ∷ 1072 ∷ 1073 ∷ 1074 ∷ 1075 ∷ 1076 ∷ 1077 ∷ 1078 ∷ 1079 ∷ []) ∷ [])
+
+-- stacks for the calls after `caught`: all below the frame that comes next is overwritten
+abbrev pub overwritings : List Made
+overwritings = overwritten 0x8000 ∷ overwritten 0x8040 ∷ overwritten 0x8060 ∷ overwritten 0x8070 ∷ overwritten 0x8070 ∷ []
+
+-- stacks that hold the live slots of the frames not yet passed, up to the chosen one, and nothing after them; then none
+abbrev pub cuts : List Made
+cuts = cut 0x8008 0x8070 ∷ cut 0x8048 0x8070 ∷ cut 0x8060 0x8070 ∷ cut 1 1 ∷ cut 0x7000 0x7000 ∷ []

@@ -1,6 +1,6 @@
 -- Scenarios of the call machine, on both architectures.
 pub mod Scenario
-pub mod Overwritten
+pub mod LiveStack
 pub mod Unusable
 pub mod Aarch64
 pub mod X86

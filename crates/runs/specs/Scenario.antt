@@ -17,7 +17,7 @@ use Rattle.model.specs.Event.{callAllowed, spillAllowed, changeAllowed, reloadA
 use Rattle.model.specs.Throw.{Throw, throwAllowed}
 use Rattle.model.specs.Sound.{Sound}
 use Rattle.model.specs.Expected.{LandingPad, Compared, outcome, due, firstOf}
-use Rattle.model.specs.Demand.{ResumeCall, answerOf, regular, Regular, current, Admissible, answers, raisedBy, unwindingOf}
+use Rattle.model.specs.Demand.{ResumeCall, answerOf, callOf, Regular, current, Admissible, answers, raisedBy, unwindingOf}
 
 -- there is such a record, and it passes
 abbrev pub allowedWith : (Entry → Bool) → Option Entry → Bool
@@ -87,7 +87,7 @@ reached s = steps (s .machine) (events (s .labelled))
 -- n regular sweep calls, each with the unwinding that the one before it returned
 abbrev pub regulars : ℕ → Machine → Unwinding → List ResumeCall
 regulars zero m u = []
-regulars (suc n) m u = regular m u ∷ regulars n m (current u (regular m u))
+regulars (suc n) m u = callOf m u ∷ regulars n m (current u (callOf m u))
 
 -- the unwinding that a scenario's throw hands back, for an exception
 abbrev pub handedBack : Scenario → ℕ → Unwinding
@@ -104,7 +104,7 @@ irregular m u = record { arch = 3; lent = lentBy m; unwinding = u }
 -- n regular sweep calls, with an irregular one before each and after the last
 abbrev pub mixed : ℕ → Machine → Unwinding → List ResumeCall
 mixed zero m u = irregular m u ∷ []
-mixed (suc n) m u = irregular m u ∷ regular m u ∷ mixed n m (current u (regular m u))
+mixed (suc n) m u = irregular m u ∷ callOf m u ∷ mixed n m (current u (callOf m u))
 
 -- what they give after a scenario, for an exception
 abbrev pub mixedAfter : Scenario → ℕ → ℕ → List Compared

@@ -1,31 +1,28 @@
--- Each clause of `Usable` is needed: sweep calls that break one of them, and what each comes to, which is not what is due.
+-- Each clause of `Usable` on stack and unwinding is needed, and so is what `Demand3Between` asks of stores: sweep calls that break one of
+-- them, and what each comes to, which is not what is due.
 use mathlib.Core.Bool.{Bool, true, false}
 use mathlib.Core.List.{List, [], _∷_, _++_}
 use mathlib.Core.Path.{_≡_}
 use Prim.Native.Nat.{ℕ}
-use lib.ListN.{take, replicate}
+use lib.ListN.{replicate}
 use Rattle.failure.specs.Outcome.{Outcome, Refused, Answer}
-use Rattle.mem.specs.Memory.{Region}
 use Rattle.mem.specs.Opening.{opens}
-use Rattle.arch.specs.Arch.{Arch}
 use Rattle.model.specs.declared.Unwinding.{Unwinding}
-use Rattle.model.specs.Cleanup.{Cleaned}
 use Rattle.model.specs.Search.{Chosen}
-use Rattle.model.specs.Machine.{Machine, archOf, lentBy}
+use Rattle.model.specs.Machine.{Machine, archOf, lentBy, stored}
 use Rattle.model.specs.Expected.{LandingPad, Compared, Installed, Finished}
 use Rattle.model.specs.OtherStack.{withStack}
-use Rattle.model.specs.Demand.{answerOf, regular, compared}
-use Rattle.model.specs.Between.{stored}
-use Rattle.model.specs.Call.{after, nth}
+use Rattle.model.specs.Demand.{answerOf, callOf}
+use Rattle.model.specs.Call.{after, nth, comparedAs}
 use Rattle.runs.specs.Scenario.{Scenario, throwAt, landing, reached, handedBack}
-use Rattle.runs.specs.Overwritten.{sameIn}
+use Rattle.runs.specs.LiveStack.{Made, cut, sameIn}
 use Rattle.runs.specs.X86.{start, eventsWith, landings}
 
 -- a sweep call when so many landings were given, with the unwinding that came after so many of them, over a stack made of the throw's
 pub record Attempt : Type 0 where
   pub given : ℕ
   pub unwindingAfter : ℕ
-  pub stack : Region → Region
+  pub stack : Made
 
 -- what it comes to: whether what it is lent opens; of which frames the live slots are as at the throw; its answer; and what is due then
 pub record Finding : Type 0 where
@@ -34,11 +31,6 @@ pub record Finding : Type 0 where
   pub answer : Outcome Compared
   pub due : Compared
 
--- an answer as it is compared, or the refusal
-abbrev pub comparedOr : Arch → Outcome Cleaned → Outcome Compared
-comparedOr a (Refused n) = Refused n
-comparedOr a (Answer x) = Answer (compared a x)
-
 -- an attempt, with the machine at the throw, the landings due and the unwinding that the throw handed back
 abbrev pub tried : Machine → List LandingPad → Unwinding → Attempt → Finding
 tried m ls u t =
@@ -46,8 +38,8 @@ tried m ls u t =
       accepted = opens (lentBy (withStack m (t .stack (m .stack))));
       same = sameIn (m .stack) (t .stack (m .stack)) (m .frames);
       answer =
-          comparedOr (archOf m)
-          (answerOf (regular (withStack m (t .stack (m .stack))) (after (t .unwindingAfter) (lentBy m) (m .tables .arch) u)));
+          comparedAs (archOf m)
+          (answerOf (callOf (withStack m (t .stack (m .stack))) (after (t .unwindingAfter) (lentBy m) (m .tables .arch) u)));
       due = nth (t .given) ls;
     }
 
@@ -82,7 +74,7 @@ attempts =
     -- the unwinding of the throw once more
     record { given = 1; unwindingAfter = 0; stack = λ r. r } ∷
     -- the stack ends one byte below the end of the chosen frame's return address, whose last byte is 0
-    record { given = 2; unwindingAfter = 2; stack = λ r. record { base = r .base; bytes = take 127 (r .bytes) } } ∷
+    record { given = 2; unwindingAfter = 2; stack = cut 0x8000 0x807f } ∷
     -- nothing is due any more, and the stack begins at 0
     record { given = 3; unwindingAfter = 3; stack = λ r. record { base = 0; bytes = [] } } ∷ []
 

@@ -3,10 +3,11 @@ use mathlib.Core.List.{List, [], _∷_, _++_}
 use Prim.Native.Nat.{ℕ, _+_}
 use lib.ListN.{replicate}
 use Rattle.model.specs.Search.{Searched, Chosen, Stopped, Ended}
-use Rattle.model.specs.Machine.{Machine}
+use Rattle.model.specs.Machine.{Machine, Store, stored}
 use Rattle.model.specs.Event.{Call, Spill, Change, Reload, Move, Write}
 use Rattle.model.specs.Throw.{Throw}
 use Rattle.model.specs.Expected.{LandingPad}
+use Rattle.runs.specs.LiveStack.{Made, overwritten, cut}
 use Rattle.runs.specs.Scenario.{Labelled, does, against, Scenario, throwAt, interruptAt, landing}
 
 -- the section, at address 1000 hexadecimal; its records by chunk and index, each as it is past its first
@@ -179,3 +180,40 @@ overUnlinked =
     ends toLeaf (interruptAt 0x4148) (Chosen 2 0x8080) (
     landing 1 0x8060 0x4190 (203 ∷ 1006 ∷ 1012 ∷ 113 ∷ 1014 ∷ 1015 ∷ []) ∷
     landing 2 0x8080 0x4030 (103 ∷ 1006 ∷ 1012 ∷ 1013 ∷ 1014 ∷ 1015 ∷ []) ∷ [])
+
+-- stacks for the calls after `caught`: all below the frame that comes next is overwritten
+abbrev pub overwritings : List Made
+overwritings = overwritten 0x8010 ∷ overwritten 0x8050 ∷ overwritten 0x8070 ∷ overwritten 0x8080 ∷ overwritten 0x8080 ∷ []
+
+-- stacks that hold the live slots of the frames not yet passed, up to the chosen one, and nothing before or after them; then none
+abbrev pub cuts : List Made
+cuts = cut 0x8020 0x8080 ∷ cut 0x8050 0x8080 ∷ cut 0x8070 0x8080 ∷ cut 1 1 ∷ cut 0x7000 0x7000 ∷ []
+
+-- stores: 3 bytes between the live slots of `plain` and of `framed`
+abbrev pub inGap : Store
+inGap = record { address = 0x8031; bytes = 1 ∷ 2 ∷ 3 ∷ [] }
+
+-- 16 bytes below `plain`
+abbrev pub below : Store
+below = record { address = 0x8000; bytes = replicate 16 0 }
+
+-- the return address of `framed`, which has landed
+abbrev pub ofFramed : Store
+ofFramed = record { address = 0x8048; bytes = replicate 8 0 }
+
+-- 25 bytes of `old`, which has landed, up to the live slots of its caller
+abbrev pub ofOld : Store
+ofOld = record { address = 0x8057; bytes = replicate 25 0 }
+
+-- stores before the calls after `caught`
+abbrev pub storesBetween : List (List Store)
+storesBetween = (inGap ∷ below ∷ []) ∷ (ofFramed ∷ []) ∷ (ofOld ∷ []) ∷ [] ∷ (ofFramed ∷ []) ∷ []
+
+-- what the calls are lent then
+abbrev pub storedBetween : List Made
+storedBetween =
+    (λ r. stored (stored r inGap) below) ∷
+    (λ r. stored (stored (stored r inGap) below) ofFramed) ∷
+    (λ r. stored (stored (stored (stored r inGap) below) ofFramed) ofOld) ∷
+    (λ r. stored (stored (stored (stored r inGap) below) ofFramed) ofOld) ∷
+    (λ r. stored (stored (stored (stored (stored r inGap) below) ofFramed) ofOld) ofFramed) ∷ []

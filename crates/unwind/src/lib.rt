@@ -21,7 +21,7 @@ ghost use Rattle.model.specs.FrameStep as Walk;
 ghost use Rattle.model.specs.Search as Search;
 ghost use Rattle.model.specs.Cleanup as Cleanup;
 ghost use Rattle.model.specs.Unwinding as Spec;
-ghost use Rattle.model.specs.Call.{Promised, GivesNext};
+ghost use Rattle.model.specs.Call.{Throws, Sweeps, GivesNext};
 ghost use Rattle.unwind.specs.Answers.{frameWith, frameAt, staying, stepped, searched, raisedBy, unmoved, resumedBy, cleaned, callWith, isLanding, callNumber, unwoundBy};
 ghost use Rattle.unwind.specs.Batches.{givenAs, given, noFrames, walkFrom, walkedBy, walking};
 ghost use Rattle.unwind.specs.Turns.{fileTold, callerByRun, advanced, passed, recordOf, Locates, metRow, rowPast, Meets, Follows, SearchTurn, cleanRow, cleanMet};
@@ -1019,7 +1019,8 @@ fn begin(answer: RaiseAnswer, regs: Regs, interrupted: bool, exception: usize) -
     }
 }
 
-// raise: the search from frame 0 on, which has the registers with the pc of the throw.
+// raise: the search from frame 0 on, which has the registers with the pc of the throw. At a machine's throw it answers as document 01's
+// demand 3 asks.
 pub fn raise<'a>(
     section: &'a [u8],
     section_base: usize,
@@ -1032,9 +1033,11 @@ pub fn raise<'a>(
     exception: usize,
 ) -> Raised
     ensures { λ r. ⌜
-        r ≡ raisedBy (Spec.frame0 (regs .r) pc interrupted) exception
+        (r ≡ raisedBy (Spec.frame0 (regs .r) pc interrupted) exception
         (Spec.raise (lent (now (section .entry)) «section_base» (now (stack .entry)) «stack_base»)
-        arch (regs .r) pc interrupted)
+        arch (regs .r) pc interrupted))
+        × Throws (lent (now (section .entry)) «section_base» (now (stack .entry)) «stack_base»)
+        arch (regs .r) pc interrupted (searched (r .answer))
         ⌝ }
 {
     let file = regs.set_pc(pc);
@@ -1200,9 +1203,9 @@ fn clean<'a>(
     }
 }
 
-// resume: finished where nothing is chosen or the chosen frame has landed, else the next landing. After a machine's throw and calls that
-// document 01's demand 3 speaks of it gives the next landing due, also over a stack that landing pads have written to since, as long as
-// the live slots of the frames not yet passed are as they were (`Usable` of `model`).
+// resume: finished where nothing is chosen or the chosen frame has landed, else the next landing. After a machine's throw, and calls each
+// of which was usable or refused, a usable call gives the next landing due: the stack may be one that landing pads have written to since,
+// as long as the live slots of the frames not yet passed, up to the chosen one, are as they were (`Usable` of `model`).
 pub fn resume<'a>(
     section: &'a [u8],
     section_base: usize,
@@ -1294,8 +1297,10 @@ pub fn unwind<'a>(
         (r ≡ unwoundBy n
         (lent (now (section .entry)) «section_base» (now (stack .entry)) «stack_base»)
         arch (regs .r) pc interrupted exception)
-        × Promised (lent (now (section .entry)) «section_base» (now (stack .entry)) «stack_base»)
-        arch (regs .r) pc interrupted n (searched (r .raised)) (cleaned (r .resumed))
+        × Throws (lent (now (section .entry)) «section_base» (now (stack .entry)) «stack_base»)
+        arch (regs .r) pc interrupted (searched (r .raised))
+        × Sweeps (lent (now (section .entry)) «section_base» (now (stack .entry)) «stack_base»)
+        arch (regs .r) pc interrupted n (cleaned (r .resumed))
         ⌝ }
 {
     let raised = raise(

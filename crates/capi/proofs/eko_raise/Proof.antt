@@ -12,7 +12,7 @@ to-raised-requires : tie.Need-to-raised-requires
 to-raised-requires c κs = search needs
 
 returns : tie.Need-returns
-returns c = c .to-raised .ensures ∙ ap raised (c .before .raise .ensures)
+returns c = c .to-raised .ensures ∙ ap raised (c .before .raise .ensures .0)
 
 pub eko-raise-spec : {M : Type 1} → statement M
 eko-raise-spec = tie.close (tie.spec raise-requires to-raised-requires returns)

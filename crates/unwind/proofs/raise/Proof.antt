@@ -3,6 +3,7 @@ use mathlib.Core.Path.{sym, _∙_}
 use borrow.Author.Tests.{not-true, not-false}
 use Rattle.mem.specs.Memory.{lent}
 use Rattle.unwind.proofs.Throwing.{raised-28, raised-on}
+use Rattle.unwind.proofs.Told.{told-throw}
 use borrow.Author.Needs.{needs}
 use Rattle.unwind.proofs.raise.Statement.{statement}
 use Rattle.unwind.proofs.raise.Tie as tie
@@ -20,9 +21,10 @@ returns : tie.Need-returns
 returns c =
     let x = c .before .before .before .before .before .before .args in
     let l = lent (x .section .now) (x .section-base) (x .stack .now) (x .stack-base) in
-    c .begin .ensures
+    told-throw l (x .arch) (x .regs .r) (x .pc) (x .interrupted) (x .exception) _
+    (c .begin .ensures
     ∙ raised-28 l (x .arch) (x .regs .r) (x .pc) (x .interrupted) (x .exception) _ (c .before .before .before .set-pc .ensures)
-    (sym (c .before .before .accepted .ensures) ∙ not-true _ (c .before .if1 .taken))
+    (sym (c .before .before .accepted .ensures) ∙ not-true _ (c .before .if1 .taken)))
 
 search-requires : tie.Need-search-requires
 search-requires c κs = search needs
@@ -34,9 +36,10 @@ returns-2 : tie.Need-returns-2
 returns-2 c =
     let x = c .before .before .before .before .before .before .before .args in
     let l = lent (x .section .now) (x .section-base) (x .stack .now) (x .stack-base) in
-    c .begin2 .ensures
+    told-throw l (x .arch) (x .regs .r) (x .pc) (x .interrupted) (x .exception) _
+    (c .begin2 .ensures
     ∙ raised-on l (x .arch) (x .regs .r) (x .pc) (x .interrupted) (x .exception) _ (c .before .before .before .before .set-pc .ensures)
-    (sym (c .before .before .before .accepted .ensures) ∙ not-false _ (c .before .before .if1 .left)) _ (c .before .search .ensures)
+    (sym (c .before .before .before .accepted .ensures) ∙ not-false _ (c .before .before .if1 .left)) _ (c .before .search .ensures))
 
 pub raise-spec : {M : Type 1} → statement M
 raise-spec = tie.close (tie.spec set-pc-requires accepted-requires begin-requires returns search-requires begin-requires-2 returns-2)

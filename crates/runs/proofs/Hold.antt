@@ -49,7 +49,7 @@ use Rattle.runs.specs.Scenario.{Holds, labelsRight}
 use Rattle.runs.specs.LiveStack.{overwritten, cut, HoldsOver, HoldsBetween, ThrowsOver, SpokenOf}
 use Rattle.runs.specs.Unusable.{ComeTo, attempts, found, caughtLow, attemptsLow, foundLow}
 use Rattle.runs.proofs.Runs.{fresh-tested, holds-reported}
-use Rattle.runs.proofs.LiveStack.{over-reported, between-told}
+use Rattle.runs.proofs.LiveStack.{over-reported, between-reported}
 use Rattle.runs.proofs.Applied.{throws-over, second}
 use Rattle.runs.specs.Aarch64 as Aarch64
 use Rattle.runs.specs.X86 as X86
@@ -149,9 +149,9 @@ pub between-scenarios :
     × ComeTo caughtLow attemptsLow foundLow
 unfolding bounded apart opens Place.holds bytesAt load byteAt ulebAt numbers isKnown columnOf get set overfull entry save formOf decode frameRegs follow act run savedPairs fpPair raSlot badFp loadSlot applyAt apply pastTable leafCfa fpCfa spCfa frameCfa returnAddress setReturn setFrame setCaller stepAt Step.step readAs passes valid checked entryAt leftBreaks rightBreaks judged handler nextDelta matched handler2 rowsOf word stride chunkAt faulty headAt startAt endAt addressOf handlersOf recordAt recordAt2 recordOf holds badRecord chunksFrom chunks records halve leftMeets rightMeets settle Lookup.search inRange searchIn lookup soundTest rowless rowAfter installed searchedCode Reason.rowOf callerFile notAdvancing nextInterrupted find past frameStep search installPad clean opened raise resume callerInterrupted column isRegister value inside meet replaced written layoutAt samePairs goodFp fits described pushes calling keptBy newFrame notSpNorPc callAllowed entered spillAllowed changeAllowed reloadAllowed writeAllowed throwAllowed rows1 rows2 rowsIn rowOf wholeTable goodTable goodFrame padOf outcome due answerOf current raisedBy unwindingOf stored fitsIn
 between-scenarios = (
-  between-told X86.caught _ _ (x86-scenarios .0) (λ exception. refl),
-  between-told X86.uncaught _ _ (x86-scenarios .2) (λ exception. refl),
-  between-told X86.inLeaf _ _ (x86-scenarios .3) (λ exception. refl),
+  between-reported X86.caught _ _ (x86-scenarios .0) (λ exception. refl),
+  between-reported X86.uncaught _ _ (x86-scenarios .2) (λ exception. refl),
+  between-reported X86.inLeaf _ _ (x86-scenarios .3) (λ exception. refl),
   λ exception. refl,
   λ exception. refl,
 )

@@ -105,32 +105,32 @@ passes-usable m u f h =
     if-chosen false s e h = let z : _≡_ {A = ℕ} 0 1 = cc in absurd (omega arith)
 
 -- all that computing shows of calls over stacks: whether each passes, and what they give
-pub record Report : Type 0 where
+pub record OverReport : Type 0 where
   pub passed : Bool
   pub gives : List Compared
 
 -- each computed once
-abbrev pub report : Arch → Machine → Unwinding → List Made → Report
-report a m u [] = record { passed = true; gives = [] }
-report a m u (f ∷ fs) =
+abbrev pub reportOver : Arch → Machine → Unwinding → List Made → OverReport
+reportOver a m u [] = record { passed = true; gives = [] }
+reportOver a m u (f ∷ fs) =
     let o = answerOf (callOver m u f) in
-    let r = report a m (currentBy u u o) fs in
+    let r = reportOver a m (currentBy u u o) fs in
     record { passed = passes m u (f (m .stack)) && r .passed; gives = unlessRefused a o (r .gives) }
 
 -- what it says of them
-pub record Says (a : Arch) (m : Machine) (u : Unwinding) (fs : List Made) : Type 0 where
-  pub usable : report a m u fs .passed ≡ true → Each (Usable m) u (callsOver m u fs)
-  pub gives : answers a (callsOver m u fs) ≡ report a m u fs .gives
+pub record OverSays (a : Arch) (m : Machine) (u : Unwinding) (fs : List Made) : Type 0 where
+  pub usable : reportOver a m u fs .passed ≡ true → Each (Usable m) u (callsOver m u fs)
+  pub gives : answers a (callsOver m u fs) ≡ reportOver a m u fs .gives
 
-says : (a : Arch) (m : Machine) (u : Unwinding) (fs : List Made) → Says a m u fs
+over-says : (a : Arch) (m : Machine) (u : Unwinding) (fs : List Made) → OverSays a m u fs
 unfolding current
-says a m u [] = record { usable = λ h. tt; gives = refl }
-says a m u (f ∷ fs) =
-    let rest = says a m (current u (callOver m u f)) fs in
+over-says a m u [] = record { usable = λ h. tt; gives = refl }
+over-says a m u (f ∷ fs) =
+    let rest = over-says a m (current u (callOver m u f)) fs in
     record {
       usable =
           λ h.
-          let (here, later) = both (passes m u (f (m .stack))) (report a m (current u (callOver m u f)) fs .passed) h in
+          let (here, later) = both (passes m u (f (m .stack))) (reportOver a m (current u (callOver m u f)) fs .passed) h in
           (passes-usable m u f here, rest .usable later);
       gives = ap (unlessRefused a (answerOf (callOver m u f))) (rest .gives);
     }
@@ -142,69 +142,69 @@ begun s m exception = raised (frame0 (m .registers) (s .throw .pc) (s .throw .in
 -- a scenario that holds, whose report is as expected, holds over such stacks
 pub over-reported : (s : Scenario) (stacks : List Made) (same : List (List Bool)) → Holds s → sameAt (reached s) stacks ≡ same →
     ((exception : ℕ) →
-    (let m = reached s in report (archOf m) m (begun s m exception) stacks)
+    (let m = reached s in reportOver (archOf m) m (begun s m exception) stacks)
     ≡ record { passed = true; gives = firstOf (length stacks) (s .landings) }) → HoldsOver s stacks same
 unfolding unwindingOf
 over-reported s stacks same holds finds e =
     record {
       finds = finds;
-      usable = λ exception. rw (holds .raises) (said exception .usable (ap (λ (r : Report). r .passed) (e exception)));
-      cleans = λ exception. rw (holds .raises) (said exception .gives ∙ ap (λ (r : Report). r .gives) (e exception));
+      usable = λ exception. rw (holds .raises) (said exception .usable (ap (λ (r : OverReport). r .passed) (e exception)));
+      cleans = λ exception. rw (holds .raises) (said exception .gives ∙ ap (λ (r : OverReport). r .gives) (e exception));
     }
   where
-    said : (exception : ℕ) → Says (archOf (reached s)) (reached s) (begun s (reached s) exception) stacks
-    said exception = says (archOf (reached s)) (reached s) (begun s (reached s) exception) stacks
+    said : (exception : ℕ) → OverSays (archOf (reached s)) (reached s) (begun s (reached s) exception) stacks
+    said exception = over-says (archOf (reached s)) (reached s) (begun s (reached s) exception) stacks
 
 -- all that computing shows of calls with stores between them: whether the stores spare, and what the calls are lent
-pub record Told : Type 0 where
+pub record BetweenReport : Type 0 where
   pub spare : Bool
   pub lent : List Lent
 
 -- each call computed once
-abbrev pub told : Machine → Unwinding → Region → List (List Store) → Told
-told m u r [] = record { spare = true; lent = [] }
-told m u r (ws ∷ wss) =
+abbrev pub reportBetween : Machine → Unwinding → Region → List (List Store) → BetweenReport
+reportBetween m u r [] = record { spare = true; lent = [] }
+reportBetween m u r (ws ∷ wss) =
     let r′ = storedAll r ws in
-    let t = told m (currentBy u u (answerOf (callOf (withStack m r′) u))) r′ wss in
+    let t = reportBetween m (currentBy u u (answerOf (callOf (withStack m r′) u))) r′ wss in
     record { spare = sparesAll r (drop (u .number) (m .frames)) ws && t .spare; lent = lentBy (withStack m r′) ∷ t .lent }
 
 -- what it says of them
-pub record Tells (m : Machine) (u : Unwinding) (r : Region) (wss : List (List Store)) : Type 0 where
-  pub spare : told m u r wss .spare ≡ true → SparedBetween m u r wss
-  pub lent : lentIn (callsBetween m u r wss) ≡ told m u r wss .lent
+pub record BetweenSays (m : Machine) (u : Unwinding) (r : Region) (wss : List (List Store)) : Type 0 where
+  pub spare : reportBetween m u r wss .spare ≡ true → SparedBetween m u r wss
+  pub lent : lentIn (callsBetween m u r wss) ≡ reportBetween m u r wss .lent
 
-tells : (m : Machine) (u : Unwinding) (r : Region) (wss : List (List Store)) → Tells m u r wss
+between-says : (m : Machine) (u : Unwinding) (r : Region) (wss : List (List Store)) → BetweenSays m u r wss
 unfolding current
-tells m u r [] = record { spare = λ h. tt; lent = refl }
-tells m u r (ws ∷ wss) =
+between-says m u r [] = record { spare = λ h. tt; lent = refl }
+between-says m u r (ws ∷ wss) =
     let next = current u (callOf (withStack m (storedAll r ws)) u) in
-    let rest = tells m next (storedAll r ws) wss in
+    let rest = between-says m next (storedAll r ws) wss in
     record {
       spare =
           λ h.
-          let (here, later) = both (sparesAll r (drop (u .number) (m .frames)) ws) (told m next (storedAll r ws) wss .spare) h in
+          let (here, later) = both (sparesAll r (drop (u .number) (m .frames)) ws) (reportBetween m next (storedAll r ws) wss .spare) h in
           (here, rest .spare later);
       lent = ap (λ (ls : List Lent). lentBy (withStack m (storedAll r ws)) ∷ ls) (rest .lent);
     }
 
--- a scenario that holds, whose stores are told to spare, holds with them: the theorem gives the landings
-pub between-told : (s : Scenario) (wss : List (List Store)) (stacks : List Made) → Holds s →
+-- a scenario that holds, whose report is as expected, holds with them: the theorem gives the landings
+pub between-reported : (s : Scenario) (wss : List (List Store)) (stacks : List Made) → Holds s →
     ((exception : ℕ) →
-    (let m = reached s in told m (begun s m exception) (m .stack) wss) ≡ record { spare = true; lent = lentOver (reached s) stacks }) →
+    (let m = reached s in reportBetween m (begun s m exception) (m .stack) wss) ≡ record { spare = true; lent = lentOver (reached s) stacks }) →
     HoldsBetween s wss stacks
 unfolding unwindingOf
-between-told s wss stacks holds e =
+between-reported s wss stacks holds e =
     record {
       spare = spare;
-      lends = λ exception. rw (holds .raises) (said exception .lent ∙ ap (λ (t : Told). t .lent) (e exception));
+      lends = λ exception. rw (holds .raises) (said exception .lent ∙ ap (λ (t : BetweenReport). t .lent) (e exception));
       cleans = λ exception.
           demand3-between (s .machine) (holds .fresh) (events (s .labelled)) (s .throw) (holds .allowed) (holds .sound) exception wss
           (spare exception)
           ∙ ap (firstOf (length wss)) (holds .lands);
     }
   where
-    said : (exception : ℕ) → Tells (reached s) (begun s (reached s) exception) (reached s .stack) wss
-    said exception = tells (reached s) (begun s (reached s) exception) (reached s .stack) wss
+    said : (exception : ℕ) → BetweenSays (reached s) (begun s (reached s) exception) (reached s .stack) wss
+    said exception = between-says (reached s) (begun s (reached s) exception) (reached s .stack) wss
 
     spare : (exception : ℕ) → SparedBetween (reached s) (handedBack s exception) (reached s .stack) wss
-    spare exception = rw (holds .raises) (said exception .spare (ap (λ (t : Told). t .spare) (e exception)))
+    spare exception = rw (holds .raises) (said exception .spare (ap (λ (t : BetweenReport). t .spare) (e exception)))

@@ -129,7 +129,7 @@ module _
       let same = current-answered u c (s .answer) e is in
       let later = rest (subst (λ (v : Unwinding). Admissible (Usable m) v cs) same admissible) in (
         (
-          (λ p refused. subst IsRefused is refused),
+          (λ p refused. absurd (subst IsRefused is refused)),
           subst (λ (v : Unwinding). Served (Usable m) v cs) (sym same) (later .0),
         ),
         rw is
@@ -149,7 +149,7 @@ module _
       λ g.
       let both : Refused n ≡ Answer (s g .answer) = sym is ∙ s g .is in
       let z : _≡_ {A = ℕ} 0 1 = cc in omega arith in
-      (((λ g p. clash g), subst (λ (v : Unwinding). Served (Usable m) v cs) (sym same) (later .0)), rw is (later .1))
+      (((λ g p. absurd (clash g)), subst (λ (v : Unwinding). Served (Usable m) v cs) (sym same) (later .0)), rw is (later .1))
 
   -- every list of calls
   pub calls : (cs : List ResumeCall) (u : Unwinding) (ls : List LandingPad) → Due m u ls → Admissible (Usable m) u cs → Lands cs u ls

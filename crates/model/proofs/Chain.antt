@@ -2,7 +2,7 @@
 use mathlib.Core.Bool.{Bool, true, false}
 use mathlib.Core.List.{List, [], _∷_, List·Memᴰ}
 use mathlib.Core.Logic.{_⊎_}
-use mathlib.Core.Path.{_≡_}
+use mathlib.Core.Path.{_≡_, refl}
 use Prim.Native.Nat.{ℕ, _-_, _^_, _≤_, _<_}
 use lib.ListN.{length, getD}
 use Rattle.failure.specs.Failure.{oneOf}
@@ -15,8 +15,13 @@ use Rattle.lookup.specs.Record.{holds}
 use Rattle.lookup.specs.Sound.{_∈_}
 use Rattle.frame.specs.Layout.{Pair}
 use Rattle.model.specs.FrameStep.{maxFrames, lookedUp}
-use Rattle.model.specs.Machine.{Open, Machine, callerInterrupted, lentBy, isRegister, value, address, inside, Tables, recordsOf, archOf}
+use Rattle.model.specs.Machine.{Open, Machine, callerInterrupted, lookedAt, lentBy, isRegister, value, address, inside, Tables, recordsOf, archOf}
 use Rattle.model.specs.Described.{isSpilled, described}
+
+-- machine and walk look a frame up at the same address
+pub looked-same : (interrupted : Bool) (at : ℕ) → lookedAt interrupted at ≡ lookedUp interrupted at
+looked-same true at = refl
+looked-same false at = refl
 
 -- an open frame by itself
 pub record Kept (ts : Tables) (f : Open) : Type 0 where

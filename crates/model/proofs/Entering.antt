@@ -25,7 +25,7 @@ use Rattle.model.specs.FrameStep.{maxFrames}
 use Rattle.model.specs.Machine.{Open, Tables, Machine, callerInterrupted, lookedAt, column, isRegister, address, inside, clear, written, recordsOf, archOf, lending}
 use Rattle.model.specs.Described.{isSpilled, described}
 use Rattle.model.specs.Event.{pushes, newFrame, returns, callerDescribed, callAllowed, entered, call}
-use Rattle.model.proofs.Chain.{Kept, Slot, Live, AllLive, Chain, Inner, Inv}
+use Rattle.model.proofs.Chain.{looked-same, Kept, Slot, Live, AllLive, Chain, Inner, Inv}
 use Rattle.model.proofs.Files.{pointers}
 use Rattle.model.proofs.Guard.{each}
 use Rattle.model.proofs.Allowed.{asked, by-test, if-allowed}
@@ -47,8 +47,8 @@ callers ts file new ret is (f ∷ fs) back out inner =
       record {
         kept = inner .0;
         called = rw is (ltb-true 0 ret above);
-        held = rw is held;
-        fits = rw is fits;
+        held = rw (is, sym (looked-same (callerInterrupted new) ret)) held;
+        fits = rw (is, sym (looked-same (callerInterrupted new) ret)) fits;
         atMost = omega arith;
         lower = λ e. lower;
       },

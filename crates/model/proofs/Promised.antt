@@ -73,14 +73,14 @@ module _ (m : Machine) (i : Inv m) (tables : SoundTables (m .tables)) where
       later-given n u ls s (gives n (resumed u (Answer (s .answer))) (s .rest) (s .after))
 
   -- what is due after a list of calls: the first of it is the one after those that the calls gave
-  record Left (u : Unwinding) (ls : List LandingPad) (cs : List ResumeCall) : Type 0 where
+  record DueAfter (u : Unwinding) (ls : List LandingPad) (cs : List ResumeCall) : Type 0 where
     pub rest : List LandingPad
     pub due : Due m (currentAfter u cs) rest
     pub is : nth 0 rest ≡ nth (length (answers (archOf m) cs)) ls
 
   -- after a call that is served, and the others
   left-served : (c : ResumeCall) (cs : List ResumeCall) (u : Unwinding) (ls : List LandingPad) → (s : Serves m u ls c) →
-      Left (current u c) (s .rest) cs → Left u ls (c ∷ cs)
+      DueAfter (current u c) (s .rest) cs → DueAfter u ls (c ∷ cs)
   left-served c cs u ls s later =
       record {
         rest = later .rest;
@@ -90,14 +90,14 @@ module _ (m : Machine) (i : Inv m) (tables : SoundTables (m .tables)) where
 
   -- a call that is refused changes nothing
   left-refused : (c : ResumeCall) (cs : List ResumeCall) (u : Unwinding) (ls : List LandingPad) → (o : Outcome Cleaned) → answerOf c ≡ o →
-      IsRefused o → (current u c ≡ u → Left (current u c) ls cs) → Left u ls (c ∷ cs)
+      IsRefused o → (current u c ≡ u → DueAfter (current u c) ls cs) → DueAfter u ls (c ∷ cs)
   left-refused c cs u ls (Answer x) is refused rest = absurd refused
   left-refused c cs u ls (Refused n) is refused rest =
-      let later : Left (current u c) ls cs = rest (current-refused u c n is) in
+      let later : DueAfter (current u c) ls cs = rest (current-refused u c n is) in
       record { rest = later .rest; due = later .due; is = later .is ∙ rw is }
 
   -- every list of calls, each usable or refused
-  left : (cs : List ResumeCall) (u : Unwinding) (ls : List LandingPad) → Due m u ls → Admissible (Usable m) u cs → Left u ls cs
+  left : (cs : List ResumeCall) (u : Unwinding) (ls : List LandingPad) → Due m u ls → Admissible (Usable m) u cs → DueAfter u ls cs
   left [] u ls d a = record { rest = ls; due = d; is = refl }
   left (c ∷ cs) u ls d a =
       ⊎-elim
@@ -186,7 +186,7 @@ gives-next c a =
     let m : Machine = machineAt x in
     let i : Inv m = steps-inv (x .start) (x .fresh) (x .events) in
     let u : Unwinding = unwindingOf m (x .throw) (a .exception) in
-    let l : Left m i (x .sound .tables) u (due m (x .throw)) (a .before) =
+    let l : DueAfter m i (x .sound .tables) u (due m (x .throw)) (a .before) =
     left m i (x .sound .tables) (a .before) u (due m (x .throw)) (starts m i (x .throw) (x .allowed) (x .sound) (a .exception))
     (a .admissible) in
     let v : Unwinding = currentAfter u (a .before) in

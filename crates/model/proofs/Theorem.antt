@@ -25,7 +25,7 @@ use Rattle.model.specs.Expected.{outcome, due, dueBy, padsFrom}
 use Rattle.model.specs.OtherStack.{withStack}
 use Rattle.model.specs.Demand.{Regular, raisedBy, unwindingOf, EveryLanding, Demand3}
 use Rattle.model.specs.LiveStack.{Usable, Demand3Live}
-use Rattle.model.proofs.Chain.{Inner, Chain, Inv, Agrees}
+use Rattle.model.proofs.Chain.{looked-same, Inner, Chain, Inv, Agrees}
 use Rattle.model.proofs.Guard.{each}
 use Rattle.model.proofs.Files.{pointers}
 use Rattle.model.proofs.InSection.{run-in-section}
@@ -79,16 +79,17 @@ module _ (m : Machine) (i : Inv m) where
           (holds (f .entry .function) (lookedAt (t .interrupted) (t .pc))
           ∷ described (m .tables) f (thrown m t) (t .interrupted) (lookedAt (t .interrupted) (t .pc)) ∷ [])
           e in
-          let here : pc (thrown m t) ≡ t .pc = thrown-pc t in (
+          let here : pc (thrown m t) ≡ t .pc = thrown-pc t in
+          let looked = looked-same (t .interrupted) (t .pc) in (
             record {
               kept = inner .0;
               called = subst (λ (x : ℕ). 0 < x) (sym here) (ltb-true 0 (t .pc) above);
-              held = subst (λ (x : ℕ). holds (f .entry .function) (lookedUp (t .interrupted) x) ≡ true) (sym here) held;
+              held =
+                  subst (λ (x : ℕ). holds (f .entry .function) (lookedUp (t .interrupted) x) ≡ true) (sym here)
+                  (subst (λ (x : ℕ). holds (f .entry .function) x ≡ true) looked held);
               fits =
-                  subst
-                  (λ (x : ℕ).
-                  described (m .tables) f (thrown m t) (t .interrupted) (lookedUp (t .interrupted) x) ≡ true)
-                  (sym here) fits;
+                  subst (λ (x : ℕ). described (m .tables) f (thrown m t) (t .interrupted) (lookedUp (t .interrupted) x) ≡ true) (sym here)
+                  (subst (λ (x : ℕ). described (m .tables) f (thrown m t) (t .interrupted) x ≡ true) looked fits);
               atMost = subst (λ (x : ℕ). x ≤ f .cfa) (sym (thrown-sp t)) (inner .1 .0);
               lower = λ p. let z : _≡_ {A = ℕ} 0 1 = cc in absurd (omega arith);
             },

@@ -27,7 +27,7 @@ use Rattle.program.specs.declared.Status.the-variants as ending
 use Rattle.frame.specs.Layout.{layout}
 use Rattle.frame.specs.Apply.{apply}
 use Rattle.model.specs.FrameStep as Walk
-use Rattle.model.specs.FrameStep.{Frame, Step, lookedUp, maxFrames, callerOf, find, frameStep}
+use Rattle.model.specs.FrameStep.{Frame, Step, lookedUp, maxFrames, callerOf, find, past, frameStep}
 use Rattle.model.specs.Search as Search
 use Rattle.model.specs.Search.{Searched}
 use Rattle.model.specs.Cleanup as Cleanup
@@ -63,6 +63,10 @@ advanced number before after (status.Refused n) = status.Refused n
 abbrev pub passed : Lent → Frame → Record → Status → List ℕ → Outcome Step
 passed l f r status.Done file = Answer (Walk.Past r (callerOf l f file))
 passed l f r (status.Refused n) file = Outcome.Refused n
+
+-- a status tells the step of a frame with this record, where the caller has this file
+abbrev pub Passes : Arch → Lent → Frame → Record → List ℕ → Status → Type 0
+Passes a l f r file s = passed l f r s file ≡ past a l f r
 
 -- a frame's record, none where the walk ends: pc 0 ends it; 1,024 frames given, 29; then lookup
 unfoldable pub recordOf : Lent → ℕ → ℕ → Bool → ℕ → Outcome (Option Record)

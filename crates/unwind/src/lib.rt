@@ -24,7 +24,7 @@ ghost use Rattle.model.specs.Unwinding as Spec;
 ghost use Rattle.model.specs.Call.{Throws, Sweeps, GivesNext};
 ghost use Rattle.unwind.specs.Answers.{frameWith, frameAt, staying, stepped, searched, raisedBy, unmoved, resumedBy, cleaned, callWith, isLanding, callNumber, unwoundBy};
 ghost use Rattle.unwind.specs.Batches.{givenAs, given, noFrames, walkFrom, walkedBy, walking};
-ghost use Rattle.unwind.specs.Turns.{fileTold, callerByRun, advanced, passed, recordOf, Locates, metRow, rowPast, Meets, Follows, SearchTurn, cleanRow, cleanMet};
+ghost use Rattle.unwind.specs.Turns.{fileTold, callerByRun, advanced, Passes, recordOf, Locates, metRow, rowPast, Meets, Follows, SearchTurn, cleanRow, cleanMet};
 use arch::COLUMNS;
 use arch::DATA_REG0;
 use arch::DATA_REG1;
@@ -367,11 +367,9 @@ fn past<'a>(
 ) -> Status
     requires { ⌜ at ≡ Walk.lookedUp interrupted (File.pc (now file)) ⌝ }
     ensures { λ r. ⌜
-        passed (lent (now (section .entry)) «section_base» (now (stack .entry)) «stack_base»)
-        (frameWith number interrupted (now (file .entry))) «record» r (now (file .exit)) ≡
-        Walk.past (numbers arch)
+        Passes (numbers arch)
         (lent (now (section .entry)) «section_base» (now (stack .entry)) «stack_base»)
-        (frameWith number interrupted (now (file .entry))) «record»
+        (frameWith number interrupted (now (file .entry))) «record» (now (file .exit)) r
         ⌝ }
 {
     let k = sp_column(arch);

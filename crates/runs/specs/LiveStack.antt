@@ -99,4 +99,5 @@ ThrowsOver s f =
 -- the second sweep call, over these two stacks and after a refused call, is one that the contract of `resume` speaks of
 abbrev pub SpokenOf : Scenario → Made → Made → Type 0
 SpokenOf s f g =
-    (exception : ℕ) → AfterThrow (callOver (reached s) (current (handedBack s exception) (callOver (reached s) (handedBack s exception) f)) g)
+    (exception : ℕ) →
+    AfterThrow (callOver (reached s) (current (handedBack s exception) (callOver (reached s) (handedBack s exception) f)) g)

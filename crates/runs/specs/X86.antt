@@ -198,22 +198,22 @@ abbrev pub below : Store
 below = record { address = 0x8000; bytes = replicate 16 0 }
 
 -- the return address of `framed`, which has landed
-abbrev pub ofFramed : Store
-ofFramed = record { address = 0x8048; bytes = replicate 8 0 }
+abbrev pub overFramed : Store
+overFramed = record { address = 0x8048; bytes = replicate 8 0 }
 
 -- 25 bytes of `old`, which has landed, up to the live slots of its caller
-abbrev pub ofOld : Store
-ofOld = record { address = 0x8057; bytes = replicate 25 0 }
+abbrev pub overOld : Store
+overOld = record { address = 0x8057; bytes = replicate 25 0 }
 
 -- stores before the calls after `caught`
 abbrev pub storesBetween : List (List Store)
-storesBetween = (inGap ∷ below ∷ []) ∷ (ofFramed ∷ []) ∷ (ofOld ∷ []) ∷ [] ∷ (ofFramed ∷ []) ∷ []
+storesBetween = (inGap ∷ below ∷ []) ∷ (overFramed ∷ []) ∷ (overOld ∷ []) ∷ [] ∷ (overFramed ∷ []) ∷ []
 
 -- what the calls are lent then
 abbrev pub storedBetween : List Made
 storedBetween =
     (λ r. stored (stored r inGap) below) ∷
-    (λ r. stored (stored (stored r inGap) below) ofFramed) ∷
-    (λ r. stored (stored (stored (stored r inGap) below) ofFramed) ofOld) ∷
-    (λ r. stored (stored (stored (stored r inGap) below) ofFramed) ofOld) ∷
-    (λ r. stored (stored (stored (stored (stored r inGap) below) ofFramed) ofOld) ofFramed) ∷ []
+    (λ r. stored (stored (stored r inGap) below) overFramed) ∷
+    (λ r. stored (stored (stored (stored r inGap) below) overFramed) overOld) ∷
+    (λ r. stored (stored (stored (stored r inGap) below) overFramed) overOld) ∷
+    (λ r. stored (stored (stored (stored (stored r inGap) below) overFramed) overOld) overFramed) ∷ []

@@ -2,52 +2,11 @@
 use mathlib.Core.Bool.{true, false}
 use mathlib.Core.List.{[], _∷_}
 use mathlib.Core.Path.{_≡_, refl}
-use Rattle.mem.specs.Opening.{bounded, apart, opens}
-use Rattle.mem.specs.Place as Place
-use Rattle.mem.specs.Place.{bytesAt}
-use Rattle.mem.specs.Word.{load}
-use Rattle.leb.specs.Reader.{byteAt, ulebAt}
-use Rattle.arch.specs.Arch.{numbers, isKnown}
-use Rattle.arch.specs.File.{columnOf, get, set}
-use Rattle.state.specs.State.{overfull, entry}
-use Rattle.state.specs.Save.{save}
-use Rattle.program.specs.Operation.{formOf, decode}
-use Rattle.program.specs.Rule.{frameRegs, follow}
-use Rattle.program.specs.Run.{act, run}
-use Rattle.frame.specs.Frame.{savedPairs, fpPair, raSlot}
-use Rattle.frame.specs.Apply.{badFp, loadSlot, applyAt, apply}
-use Rattle.frame.specs.Step as Step
-use Rattle.frame.specs.Step.{pastTable, leafCfa, fpCfa, spCfa, frameCfa, returnAddress, setReturn, setFrame, setCaller, stepAt}
-use Rattle.frame.specs.ReadAs.{readAs, passes}
-use Rattle.rows.specs.Row.{valid, checked}
-use Rattle.rows.specs.Handler.{entryAt, leftBreaks, rightBreaks, judged, handler}
-use Rattle.rows.specs.Handler2.{nextDelta, matched, handler2}
-use Rattle.rows.specs.Prefix.{rowsOf}
-use Rattle.lookup.specs.Field.{word}
-use Rattle.lookup.specs.Header.{stride, chunkAt, faulty, headAt}
-use Rattle.lookup.specs.Record.{startAt, endAt, addressOf, handlersOf, recordAt, recordAt2, recordOf, holds, badRecord}
-use Rattle.lookup.specs.Tables.{chunksFrom, chunks, records}
-use Rattle.lookup.specs.Search as Lookup
-use Rattle.lookup.specs.Search.{halve, leftMeets, rightMeets, settle}
-use Rattle.lookup.specs.Lookup.{inRange, searchIn, lookup}
-use Rattle.lookup.proofs.Tested.{soundTest}
-use Rattle.personality.specs.Reason as Reason
-use Rattle.personality.specs.Reason.{rowless, rowAfter, installed, searchedCode}
-use Rattle.model.specs.FrameStep.{nextInterrupted, find, callerFile, notAdvancing, past, frameStep}
-use Rattle.model.specs.Search.{search}
-use Rattle.model.specs.Cleanup.{installPad, clean}
-use Rattle.model.specs.Unwinding.{opened, raise, resume}
-use Rattle.model.specs.Machine.{callerInterrupted, Fresh, column, isRegister, value, inside, meet, replaced, stored, written}
-use Rattle.model.specs.Described.{layoutAt, samePairs, goodFp, fits, described}
-use Rattle.model.specs.Event.{pushes, calling, keptBy, newFrame, notSpNorPc, callAllowed, entered, spillAllowed, changeAllowed, reloadAllowed, writeAllowed}
-use Rattle.model.specs.Throw.{throwAllowed, rows1, rows2, rowsIn, rowOf}
-use Rattle.model.specs.Sound.{wholeTable, goodTable, goodFrame}
-use Rattle.model.specs.Expected.{padOf, outcome, due}
-use Rattle.model.specs.Demand.{answerOf, current, raisedBy, unwindingOf}
-use Rattle.model.specs.Between.{fitsIn}
+use Rattle.model.specs.Machine.{Fresh, stored}
 use Rattle.runs.specs.Scenario.{Holds, labelsRight}
 use Rattle.runs.specs.LiveStack.{overwritten, cut, HoldsOver, HoldsBetween, ThrowsOver, SpokenOf}
 use Rattle.runs.specs.Unusable.{ComeTo, attempts, found, caughtLow, attemptsLow, foundLow}
+use Rattle.runs.proofs.Computing.{opening, computing}
 use Rattle.runs.proofs.Runs.{fresh-tested, holds-reported}
 use Rattle.runs.proofs.LiveStack.{over-reported, between-reported}
 use Rattle.runs.proofs.Applied.{throws-over, second}
@@ -56,16 +15,16 @@ use Rattle.runs.specs.X86 as X86
 
 -- the machines that the scenarios begin with are fresh
 pub aarch64-fresh : Fresh Aarch64.start
-unfolding bounded apart opens isKnown
+unfolding opening
 aarch64-fresh = fresh-tested Aarch64.start refl refl refl refl refl refl
 
 pub x86-fresh : Fresh X86.start
-unfolding bounded apart opens isKnown
+unfolding opening
 x86-fresh = fresh-tested X86.start refl refl refl refl refl refl
 
 -- every scenario holds
 pub aarch64-scenarios : Holds Aarch64.caught × Holds Aarch64.terminated × Holds Aarch64.uncaught × Holds Aarch64.atEntry
-unfolding bounded apart opens Place.holds bytesAt load byteAt ulebAt numbers isKnown columnOf get set overfull entry save formOf decode frameRegs follow act run savedPairs fpPair raSlot badFp loadSlot applyAt apply pastTable leafCfa fpCfa spCfa frameCfa returnAddress setReturn setFrame setCaller stepAt Step.step readAs passes valid checked entryAt leftBreaks rightBreaks judged handler nextDelta matched handler2 rowsOf word stride chunkAt faulty headAt startAt endAt addressOf handlersOf recordAt recordAt2 recordOf holds badRecord chunksFrom chunks records halve leftMeets rightMeets settle Lookup.search inRange searchIn lookup soundTest rowless rowAfter installed searchedCode Reason.rowOf callerFile notAdvancing nextInterrupted find past frameStep search installPad clean opened raise resume callerInterrupted column isRegister value inside meet replaced stored written layoutAt samePairs goodFp fits described pushes calling keptBy newFrame notSpNorPc callAllowed entered spillAllowed changeAllowed reloadAllowed writeAllowed throwAllowed rows1 rows2 rowsIn rowOf wholeTable goodTable goodFrame padOf outcome due answerOf current raisedBy unwindingOf
+unfolding computing
 aarch64-scenarios = (
   holds-reported Aarch64.caught aarch64-fresh refl (λ exception. refl),
   holds-reported Aarch64.terminated aarch64-fresh refl (λ exception. refl),
@@ -74,7 +33,7 @@ aarch64-scenarios = (
 )
 
 pub x86-scenarios : Holds X86.caught × Holds X86.terminated × Holds X86.uncaught × Holds X86.inLeaf
-unfolding bounded apart opens Place.holds bytesAt load byteAt ulebAt numbers isKnown columnOf get set overfull entry save formOf decode frameRegs follow act run savedPairs fpPair raSlot badFp loadSlot applyAt apply pastTable leafCfa fpCfa spCfa frameCfa returnAddress setReturn setFrame setCaller stepAt Step.step readAs passes valid checked entryAt leftBreaks rightBreaks judged handler nextDelta matched handler2 rowsOf word stride chunkAt faulty headAt startAt endAt addressOf handlersOf recordAt recordAt2 recordOf holds badRecord chunksFrom chunks records halve leftMeets rightMeets settle Lookup.search inRange searchIn lookup soundTest rowless rowAfter installed searchedCode Reason.rowOf callerFile notAdvancing nextInterrupted find past frameStep search installPad clean opened raise resume callerInterrupted column isRegister value inside meet replaced stored written layoutAt samePairs goodFp fits described pushes calling keptBy newFrame notSpNorPc callAllowed entered spillAllowed changeAllowed reloadAllowed writeAllowed throwAllowed rows1 rows2 rowsIn rowOf wholeTable goodTable goodFrame padOf outcome due answerOf current raisedBy unwindingOf
+unfolding computing
 x86-scenarios = (
   holds-reported X86.caught x86-fresh refl (λ exception. refl),
   holds-reported X86.terminated x86-fresh refl (λ exception. refl),
@@ -84,7 +43,7 @@ x86-scenarios = (
 
 -- and the two with version 1 words of the other kind
 pub leaf-scenarios : Holds Aarch64.inLeaf × Holds X86.overUnlinked
-unfolding bounded apart opens Place.holds bytesAt load byteAt ulebAt numbers isKnown columnOf get set overfull entry save formOf decode frameRegs follow act run savedPairs fpPair raSlot badFp loadSlot applyAt apply pastTable leafCfa fpCfa spCfa frameCfa returnAddress setReturn setFrame setCaller stepAt Step.step readAs passes valid checked entryAt leftBreaks rightBreaks judged handler nextDelta matched handler2 rowsOf word stride chunkAt faulty headAt startAt endAt addressOf handlersOf recordAt recordAt2 recordOf holds badRecord chunksFrom chunks records halve leftMeets rightMeets settle Lookup.search inRange searchIn lookup soundTest rowless rowAfter installed searchedCode Reason.rowOf callerFile notAdvancing nextInterrupted find past frameStep search installPad clean opened raise resume callerInterrupted column isRegister value inside meet replaced stored written layoutAt samePairs goodFp fits described pushes calling keptBy newFrame notSpNorPc callAllowed entered spillAllowed changeAllowed reloadAllowed writeAllowed throwAllowed rows1 rows2 rowsIn rowOf wholeTable goodTable goodFrame padOf outcome due answerOf current raisedBy unwindingOf
+unfolding computing
 leaf-scenarios = (
   holds-reported Aarch64.inLeaf aarch64-fresh refl (λ exception. refl),
   holds-reported X86.overUnlinked x86-fresh refl (λ exception. refl),
@@ -105,7 +64,7 @@ pub overwritten-scenarios :
     (false ∷ false ∷ false ∷ true ∷ true ∷ []) ∷
     (false ∷ false ∷ false ∷ false ∷ true ∷ []) ∷
     (false ∷ false ∷ false ∷ false ∷ true ∷ []) ∷ [])
-unfolding bounded apart opens Place.holds bytesAt load byteAt ulebAt numbers isKnown columnOf get set overfull entry save formOf decode frameRegs follow act run savedPairs fpPair raSlot badFp loadSlot applyAt apply pastTable leafCfa fpCfa spCfa frameCfa returnAddress setReturn setFrame setCaller stepAt Step.step readAs passes valid checked entryAt leftBreaks rightBreaks judged handler nextDelta matched handler2 rowsOf word stride chunkAt faulty headAt startAt endAt addressOf handlersOf recordAt recordAt2 recordOf holds badRecord chunksFrom chunks records halve leftMeets rightMeets settle Lookup.search inRange searchIn lookup soundTest rowless rowAfter installed searchedCode Reason.rowOf callerFile notAdvancing nextInterrupted find past frameStep search installPad clean opened raise resume callerInterrupted column isRegister value inside meet replaced written layoutAt samePairs goodFp fits described pushes calling keptBy newFrame notSpNorPc callAllowed entered spillAllowed changeAllowed reloadAllowed writeAllowed throwAllowed rows1 rows2 rowsIn rowOf wholeTable goodTable goodFrame padOf outcome due answerOf current raisedBy unwindingOf stored fitsIn
+unfolding computing
 overwritten-scenarios = (
   over-reported Aarch64.caught _ _ (aarch64-scenarios .0) refl (λ exception. refl),
   over-reported X86.caught _ _ (x86-scenarios .0) refl (λ exception. refl),
@@ -126,7 +85,7 @@ pub cut-scenarios :
     (false ∷ false ∷ false ∷ false ∷ false ∷ []) ∷
     (false ∷ false ∷ false ∷ false ∷ false ∷ []) ∷ [])
     × ThrowsOver X86.caught (cut 0x8020 0x8090)
-unfolding bounded apart opens Place.holds bytesAt load byteAt ulebAt numbers isKnown columnOf get set overfull entry save formOf decode frameRegs follow act run savedPairs fpPair raSlot badFp loadSlot applyAt apply pastTable leafCfa fpCfa spCfa frameCfa returnAddress setReturn setFrame setCaller stepAt Step.step readAs passes valid checked entryAt leftBreaks rightBreaks judged handler nextDelta matched handler2 rowsOf word stride chunkAt faulty headAt startAt endAt addressOf handlersOf recordAt recordAt2 recordOf holds badRecord chunksFrom chunks records halve leftMeets rightMeets settle Lookup.search inRange searchIn lookup soundTest rowless rowAfter installed searchedCode Reason.rowOf callerFile notAdvancing nextInterrupted find past frameStep search installPad clean opened raise resume callerInterrupted column isRegister value inside meet replaced written layoutAt samePairs goodFp fits described pushes calling keptBy newFrame notSpNorPc callAllowed entered spillAllowed changeAllowed reloadAllowed writeAllowed throwAllowed rows1 rows2 rowsIn rowOf wholeTable goodTable goodFrame padOf outcome due answerOf current raisedBy unwindingOf stored fitsIn
+unfolding computing
 cut-scenarios = (
   over-reported Aarch64.caught _ _ (aarch64-scenarios .0) refl (λ exception. refl),
   over-reported X86.caught _ _ (x86-scenarios .0) refl (λ exception. refl),
@@ -148,7 +107,7 @@ pub between-scenarios :
     × HoldsBetween X86.inLeaf ((X86.inGap ∷ []) ∷ []) ((λ r. stored r X86.inGap) ∷ [])
     × ComeTo X86.caught attempts found
     × ComeTo caughtLow attemptsLow foundLow
-unfolding bounded apart opens Place.holds bytesAt load byteAt ulebAt numbers isKnown columnOf get set overfull entry save formOf decode frameRegs follow act run savedPairs fpPair raSlot badFp loadSlot applyAt apply pastTable leafCfa fpCfa spCfa frameCfa returnAddress setReturn setFrame setCaller stepAt Step.step readAs passes valid checked entryAt leftBreaks rightBreaks judged handler nextDelta matched handler2 rowsOf word stride chunkAt faulty headAt startAt endAt addressOf handlersOf recordAt recordAt2 recordOf holds badRecord chunksFrom chunks records halve leftMeets rightMeets settle Lookup.search inRange searchIn lookup soundTest rowless rowAfter installed searchedCode Reason.rowOf callerFile notAdvancing nextInterrupted find past frameStep search installPad clean opened raise resume callerInterrupted column isRegister value inside meet replaced written layoutAt samePairs goodFp fits described pushes calling keptBy newFrame notSpNorPc callAllowed entered spillAllowed changeAllowed reloadAllowed writeAllowed throwAllowed rows1 rows2 rowsIn rowOf wholeTable goodTable goodFrame padOf outcome due answerOf current raisedBy unwindingOf stored fitsIn
+unfolding computing
 between-scenarios = (
   between-reported X86.caught _ _ (x86-scenarios .0) (λ exception. refl),
   between-reported X86.uncaught _ _ (x86-scenarios .2) (λ exception. refl),
@@ -159,10 +118,10 @@ between-scenarios = (
 
 -- the events of the first scenario of each are within the rules or against them, as their labels say
 pub labels-right : (labelsRight Aarch64.start (Aarch64.caught .labelled) ≡ true) × (labelsRight X86.start (X86.caught .labelled) ≡ true)
-unfolding bounded apart opens Place.holds bytesAt load byteAt ulebAt numbers isKnown columnOf get set overfull entry save formOf decode frameRegs follow act run savedPairs fpPair raSlot badFp loadSlot applyAt apply pastTable leafCfa fpCfa spCfa frameCfa returnAddress setReturn setFrame setCaller stepAt Step.step readAs passes valid checked entryAt leftBreaks rightBreaks judged handler nextDelta matched handler2 rowsOf word stride chunkAt faulty headAt startAt endAt addressOf handlersOf recordAt recordAt2 recordOf holds badRecord chunksFrom chunks records halve leftMeets rightMeets settle Lookup.search inRange searchIn lookup soundTest rowless rowAfter installed searchedCode Reason.rowOf callerFile notAdvancing nextInterrupted find past frameStep search installPad clean opened raise resume callerInterrupted column isRegister value inside meet replaced stored written layoutAt samePairs goodFp fits described pushes calling keptBy newFrame notSpNorPc callAllowed entered spillAllowed changeAllowed reloadAllowed writeAllowed throwAllowed rows1 rows2 rowsIn rowOf wholeTable goodTable goodFrame padOf outcome due answerOf current raisedBy unwindingOf
+unfolding computing
 labels-right = (refl, refl)
 
 -- so are those of the last one
 pub leaf-labels-right : (labelsRight Aarch64.start Aarch64.toLeaf ≡ true) × (labelsRight X86.start X86.toLeaf ≡ true)
-unfolding bounded apart opens Place.holds bytesAt load byteAt ulebAt numbers isKnown columnOf get set overfull entry save formOf decode frameRegs follow act run savedPairs fpPair raSlot badFp loadSlot applyAt apply pastTable leafCfa fpCfa spCfa frameCfa returnAddress setReturn setFrame setCaller stepAt Step.step readAs passes valid checked entryAt leftBreaks rightBreaks judged handler nextDelta matched handler2 rowsOf word stride chunkAt faulty headAt startAt endAt addressOf handlersOf recordAt recordAt2 recordOf holds badRecord chunksFrom chunks records halve leftMeets rightMeets settle Lookup.search inRange searchIn lookup soundTest rowless rowAfter installed searchedCode Reason.rowOf callerFile notAdvancing nextInterrupted find past frameStep search installPad clean opened raise resume callerInterrupted column isRegister value inside meet replaced stored written layoutAt samePairs goodFp fits described pushes calling keptBy newFrame notSpNorPc callAllowed entered spillAllowed changeAllowed reloadAllowed writeAllowed throwAllowed rows1 rows2 rowsIn rowOf wholeTable goodTable goodFrame padOf outcome due answerOf current raisedBy unwindingOf
+unfolding computing
 leaf-labels-right = (refl, refl)

@@ -1,4 +1,5 @@
 -- The scenarios hold.
+pub mod Computing
 pub mod Rules
 pub mod Runs
 pub mod LiveStack

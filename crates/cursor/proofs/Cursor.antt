@@ -1,16 +1,18 @@
 -- Of a number that is read, the value and the place after it are the whole answer, and the value has its number. Past what
 -- does not move it, the cursor is the one that stood there. Assumes nothing.
-use mathlib.Core.Path.{_≡_, refl}
+use mathlib.Core.Path.{_≡_, refl, _∙_, ap}
 use mathlib.Core.Bool.{not}
 use Prim.Native.Nat.{ℕ}
 use lib.Dec.{T}
-use Rattle.failure.specs.Outcome.{Answer, _>>=_}
+use Rattle.failure.specs.Outcome.{Outcome, Answer, _>>=_}
+use Rattle.mem.specs.Memory.{Memory}
 use Rattle.leb.specs.Reader.{Read, numbered}
+use Rattle.leb.proofs.Told.{uleb-told}
 use Rattle.leb.specs.declared.Byte.{Byte}
 use Rattle.leb.specs.declared.Byte.the-variants as byte
 use Rattle.leb.specs.declared.Uleb.{Uleb}
 use Rattle.leb.specs.declared.Uleb.the-variants.{Is, Limit, TooLarge, Outside}
-use Rattle.cursor.specs.Cursor.{movesByte, pastByte, valueOf, numberedValue, placed, placeAfter, moves, past}
+use Rattle.cursor.specs.Cursor.{movesByte, pastByte, valueOf, numberedValue, placed, placeAfter, moves, ulebHere, readHere, past}
 use Rattle.cursor.specs.declared.Bytes.{Bytes}
 
 -- the value at the place after it is the answer
@@ -26,6 +28,11 @@ value-told (Is v next) = refl
 value-told Limit = refl
 value-told TooLarge = refl
 value-told Outside = refl
+
+-- so document 01's outcome at a cursor is that of the value there
+pub here-told : (m : Memory) (c : Bytes) → numberedValue (valueOf (ulebHere m c)) ≡ readHere m c
+here-told m c =
+    value-told (ulebHere m c) ∙ ap (λ (o : Outcome Read). o >>= λ (r : Read). Answer (r .value)) (uleb-told m (c .end) (c .pos))
 
 -- where a byte does not move the cursor, the cursor past it is the one that stood there
 pub byte-stays : (c : Bytes) (b : Byte) → T (not (movesByte b)) → c ≡ pastByte c b

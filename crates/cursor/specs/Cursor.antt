@@ -2,10 +2,10 @@
 -- it, and where it stands then. On a refusal it stays where it stood.
 use mathlib.Core.Bool.{Bool, true, false}
 use Prim.Native.Nat.{ℕ, _+_}
-use Rattle.failure.specs.Outcome.{Outcome, Refused, Answer}
+use Rattle.failure.specs.Outcome.{Outcome, Refused, Answer, _>>=_}
 use Rattle.failure.specs.Failure.{BadEkoRecord, OutsideMemory}
 use Rattle.mem.specs.Memory.{Memory}
-use Rattle.leb.specs.Reader.{byteAt, ulebAt}
+use Rattle.leb.specs.Reader.{byteAt, ulebAt, readByte, readNumber}
 use Rattle.leb.specs.declared.Byte.{Byte}
 use Rattle.leb.specs.declared.Byte.the-variants as byte
 use Rattle.leb.specs.declared.Uleb.{Uleb}
@@ -35,6 +35,10 @@ movedByteOf pos b = record { byte = b; pos = placeAfterByte pos b; moved = moves
 -- the byte at the cursor
 abbrev pub byteHere : Memory → Bytes → Byte
 byteHere m c = byteAt m (c .end) (c .pos)
+
+-- document 01's outcome of it
+abbrev pub readByteHere : Memory → Bytes → Outcome ℕ
+readByteHere m c = readByte m (c .end) (c .pos)
 
 -- the cursor past a byte; on a refusal as it was
 abbrev pub pastByte : Bytes → Byte → Bytes
@@ -82,6 +86,10 @@ movedOf pos u = record { value = valueOf u; pos = placeAfter pos u; moved = move
 -- the number at the cursor
 abbrev pub ulebHere : Memory → Bytes → Uleb
 ulebHere m c = ulebAt m (c .end) (c .pos)
+
+-- document 01's outcome of it, without the place after it
+abbrev pub readHere : Memory → Bytes → Outcome ℕ
+readHere m c = readNumber m (c .end) (c .pos) >>= λ x. Answer (x .value)
 
 -- the cursor past a number; on a refusal as it was
 abbrev pub past : Bytes → Uleb → Bytes

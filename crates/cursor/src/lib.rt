@@ -3,7 +3,7 @@
 // their callers see no cursor. All four are for the crates above, which have tested what is lent.
 ghost use mathlib.Core.Path.{_≡_};
 ghost use Rattle.mem.specs.Memory.{lent};
-ghost use Rattle.leb.specs.Reader.{byteAt, ulebAt};
+ghost use Rattle.leb.specs.Reader.{byteAt, ulebAt, numberedByte};
 ghost use Rattle.cursor.specs.Cursor as Cursor;
 use leb::Byte;
 use leb::Uleb;
@@ -85,6 +85,9 @@ pub fn u8<'a, 'b>(
         (now (bytes .exit) ≡
         Cursor.pastByte (now (bytes .entry))
         (Cursor.byteHere (lent (now (section .entry)) «section_base» (now (stack .entry)) «stack_base» .regions) (now (bytes .entry))))
+        ×
+        (numberedByte r ≡
+        Cursor.readByteHere (lent (now (section .entry)) «section_base» (now (stack .entry)) «stack_base» .regions) (now (bytes .entry)))
         ⌝ }
 {
     let m = byte_moved(
@@ -172,6 +175,9 @@ pub fn uleb<'a, 'b>(
         (now (bytes .exit) ≡
         Cursor.past (now (bytes .entry))
         (Cursor.ulebHere (lent (now (section .entry)) «section_base» (now (stack .entry)) «stack_base» .regions) (now (bytes .entry))))
+        ×
+        (Cursor.numberedValue r ≡
+        Cursor.readHere (lent (now (section .entry)) «section_base» (now (stack .entry)) «stack_base» .regions) (now (bytes .entry)))
         ⌝ }
 {
     let m = uleb_moved(

@@ -3,4 +3,5 @@ pub mod Reader
 pub mod Sofar
 pub mod Meaning
 pub mod Numbers
+pub mod Told
 pub mod Section

@@ -1,9 +1,10 @@
 -- The number reader (document 01, "The state program": "Uleb: DWARF's, padding allowed, at most 5 bytes, at most 2^32 - 1").
--- It answers finer than 18: `numbered` folds a number's two faults to 18, and `numberedByte` a byte's.
+-- It answers finer than 18: `numbered` folds a number's two faults to 18, and `numberedByte` a byte's. What comes of that is document
+-- 01's outcome, `readByte` and `readNumber`.
 use Prim.Native.Nat.{ℕ, zero, suc, _+_, _-_, _*_, _^_}
 use lib.Dec.{leb, ltb}
 use Rattle.failure.specs.Choice.{if_then_else_}
-use Rattle.failure.specs.Outcome.{Outcome, Refused, Answer}
+use Rattle.failure.specs.Outcome.{Outcome, Refused, Answer, _>>=_}
 use Rattle.failure.specs.Failure.{BadEkoRecord, OutsideMemory, BadOpening}
 use Rattle.mem.specs.Memory.{Memory, Lent}
 use Rattle.mem.specs.Opening.{opens}
@@ -76,6 +77,27 @@ abbrev pub told : Number → Outcome Read
 told (number.Is v next) = Answer (record { value = v; next = next })
 told (number.Refused n) = Refused n
 
+-- document 01's outcome of the byte at pos: 18 at or past the limit, else what memory has there, or 27
+unfoldable pub readByte : Memory → ℕ → ℕ → Outcome ℕ
+readByte m limit pos = if leb limit pos then Refused BadEkoRecord else load m 1 pos
+
+-- of a number whose first byte, at pos, is b, by that of what stands after it
+abbrev pub readFrom : ℕ → ℕ → Outcome Read → Outcome Read
+readFrom pos b rest =
+    if ltb b 128 then Answer (record { value = b; next = pos + 1 })
+    else rest >>= λ x. Answer (record { value = b - 128 + 128 * x .value; next = x .next })
+
+-- of the number at pos, in at most so many bytes: 18 where they have no end
+abbrev pub readIn : ℕ → Memory → ℕ → ℕ → Outcome Read
+readIn zero m limit pos = Refused BadEkoRecord
+readIn (suc k) m limit pos = readByte m limit pos >>= λ b. readFrom pos b (readIn k m limit (pos + 1))
+
+-- of the number at pos: at most 5 bytes, at most 2^32 - 1, else 18
+unfoldable pub readNumber : Memory → ℕ → ℕ → Outcome Read
+readNumber m limit pos = do
+  x ← readIn 5 m limit pos
+  if ltb (x .value) (2 ^ 32) then Answer x else Refused BadEkoRecord
+
 -- the number at pos in what is lent: 28 first
 unfoldable pub readUleb : Lent → ℕ → ℕ → Outcome Read
-readUleb l limit pos = if opens l then numbered (ulebAt (l .regions) limit pos) else Refused BadOpening
+readUleb l limit pos = if opens l then readNumber (l .regions) limit pos else Refused BadOpening

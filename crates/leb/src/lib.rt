@@ -42,8 +42,10 @@ pub fn byte_at<'a>(
     limit: usize,
 ) -> Byte
     ensures { λ r. ⌜
-        r ≡
-        Reader.byteAt (lent (now (section .entry)) «section_base» (now (stack .entry)) «stack_base» .regions) limit pos
+        (r ≡
+        Reader.byteAt (lent (now (section .entry)) «section_base» (now (stack .entry)) «stack_base» .regions) limit pos)
+        × (Reader.numberedByte r ≡
+        Reader.readByte (lent (now (section .entry)) «section_base» (now (stack .entry)) «stack_base» .regions) limit pos)
         ⌝ }
 {
     if limit <= pos {
@@ -83,8 +85,10 @@ pub fn uleb_at<'a>(
     limit: usize,
 ) -> Uleb
     ensures { λ r. ⌜
-        r ≡
-        Reader.ulebAt (lent (now (section .entry)) «section_base» (now (stack .entry)) «stack_base» .regions) limit pos
+        (r ≡
+        Reader.ulebAt (lent (now (section .entry)) «section_base» (now (stack .entry)) «stack_base» .regions) limit pos)
+        × (Reader.numbered r ≡
+        Reader.readNumber (lent (now (section .entry)) «section_base» (now (stack .entry)) «stack_base» .regions) limit pos)
         ⌝ }
 {
     let mut v: usize = 0;

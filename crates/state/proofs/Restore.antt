@@ -101,6 +101,10 @@ next-told st x r e = ap told e ∙ same x
     same Full = refl
     same BadOpening = refl
 
+-- what is said of a change as the code hands it back
+pub next-given : (st : State) (x : Change) (r : Next) → r ≡ next st x → (r ≡ next st x) × (told r ≡ changed x)
+next-given st x r e = (e, next-told st x r e)
+
 -- the numbers of both architectures are within what a save takes
 pub entry-small : (n : ℕ) → (numbers n .ra ≤ 65535) × (numbers n .entrySlot ≤ 65535)
 entry-small = of-both (λ (a : Arch). (a .ra ≤ 65535) × (a .entrySlot ≤ 65535)) (lit≤ tt, lit≤ tt) (lit≤ tt, lit≤ tt)

@@ -43,16 +43,17 @@ next st x = record { status = statusOf x; state = handedBack st (changed x) }
 abbrev pub nextIn : Bool → ℕ → Counted → List ℕ → List ℕ → Next
 nextIn fp units r regs slots = record { status = r .status; state = stateOf fp units (r .count) regs slots }
 
--- the change that a status and the state beside it stand for
-abbrev pub changeBy : Status → State → Change
-changeBy status.Done st = Done st
-changeBy status.OutOfRange st = OutOfRange
-changeBy status.Full st = Full
-changeBy status.BadOpening st = Save.BadOpening
+-- document 01's number and value for each case of a Status, with the state beside it: a 33rd register is 18 as the other faults of a
+-- save are
+abbrev pub toldBy : Status → State → Outcome State
+toldBy status.Done st = Answer st
+toldBy status.OutOfRange st = Refused BadEkoRecord
+toldBy status.Full st = Refused BadEkoRecord
+toldBy status.BadOpening st = Refused BadOpening
 
--- document 01's number and value for what the code hands back
+-- for what the code hands back
 abbrev pub told : Next → Outcome State
-told n = changed (changeBy (n .status) (n .state))
+told n = toldBy (n .status) (n .state)
 
 -- a register's slot, none if it is not saved
 abbrev pub slotted : Slot → Outcome (Option ℕ)

@@ -12,7 +12,7 @@ ghost use Rattle.state.specs.Pairs as Pairs;
 ghost use Rattle.state.specs.Save as Save;
 ghost use Rattle.state.specs.Restore as Restore;
 ghost use Rattle.state.specs.Public as Public;
-ghost use Rattle.state.specs.Answers.{next, nextIn, slotted};
+ghost use Rattle.state.specs.Answers.{changed, next, nextIn, told, slotted};
 use arch::is_known;
 use arch::numbers;
 
@@ -248,7 +248,7 @@ pub fn at_entry(arch: u8) -> State
 impl State {
     // The entry state; for a refusal that of the numbers that stand for the architecture.
     pub fn entry(arch: u8) -> Next
-        ensures { λ r. ⌜ r ≡ next (Spec.entry (numbers arch)) (Public.entry arch) ⌝ }
+        ensures { λ r. ⌜ (r ≡ next (Spec.entry (numbers arch)) (Public.entry arch)) × (told r ≡ changed (Public.entry arch)) ⌝ }
     {
         if !is_known(arch) {
             return Next {
@@ -277,7 +277,7 @@ impl State {
 
     // The state with a register saved in a slot.
     pub fn save(mut self, reg: usize, slot: usize) -> Next
-        ensures { λ r. ⌜ r ≡ next self (Save.save self reg slot) ⌝ }
+        ensures { λ r. ⌜ (r ≡ next self (Save.save self reg slot)) × (told r ≡ changed (Save.save self reg slot)) ⌝ }
     {
         let mut regs = self.regs;
         let mut slots = self.slots;
@@ -294,7 +294,7 @@ impl State {
 
     // A register back to its entry rule.
     pub fn restore(mut self, arch: u8, reg: usize) -> Next
-        ensures { λ r. ⌜ r ≡ next self (Public.restore arch self reg) ⌝ }
+        ensures { λ r. ⌜ (r ≡ next self (Public.restore arch self reg)) × (told r ≡ changed (Public.restore arch self reg)) ⌝ }
     {
         if !is_known(arch) {
             return Next {

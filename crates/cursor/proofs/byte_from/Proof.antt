@@ -26,11 +26,11 @@ use denote.Triple.Statement.{Triple}
 use denote.Triple.Spec.{tripleOf}
 use denote.Triple.Table.{entered, cited}
 use Rattle.mem.specs.Memory.{lent}
-use Rattle.leb.specs.Reader.{byteAt}
+use Rattle.leb.specs.Reader.{byteAt, numberedByte}
 use Rattle.leb.specs.declared.Byte.{Byte}
 use Rattle.leb.proofs.Byte as S
 use Rattle.leb.proofs.Byte.Laws as S′
-use Rattle.cursor.specs.Cursor.{byteHere, pastByte}
+use Rattle.cursor.specs.Cursor.{byteHere, readByteHere, pastByte}
 use Rattle.cursor.specs.declared.Bytes.{Bytes}
 use Rattle.cursor.proofs.Lent.{fat-of, Part, four-out}
 use Rattle.cursor.proofs.Held.{Numbers}
@@ -51,6 +51,7 @@ Said x r c =
     let h = now (x .1 .1 .1 .1 .0) in
     let here = byteHere (lent (now (x .0)) (x .1 .0) (now (x .1 .1 .0)) (x .1 .1 .1 .0) .regions) h in
     (r ≡ here) × (c ≡ pastByte h here)
+    × (numberedByte r ≡ readByteHere (lent (now (x .0)) (x .1 .0) (now (x .1 .1 .0)) (x .1 .1 .1 .0) .regions) h)
 
 abbrev Owed : NumberArgs → Byte → Type 0
 Owed x r = r ≡ byteAt (lent (now (x .0)) (x .1 .0) (now (x .1 .1 .0)) (x .1 .1 .1 .0) .regions) (x .1 .1 .1 .1 .1 .0) (x .1 .1 .1 .1 .0)

@@ -15,7 +15,7 @@ enum-known-b c = search needs
 
 add-t11 : tie.Need-add-t11
 add-t11 c =
-    omega (arith, byte-read _ _ _ _ (sym (c .before .before .before .byte-at .ensures) ∙ c .before .b .given .1) .0)
+    omega (arith, byte-read _ _ _ _ (sym (c .before .before .before .byte-at .ensures .0) ∙ c .before .b .given .1) .0)
 
 enum-told : tie.Need-enum-told
 enum-told c = search needs
@@ -24,13 +24,13 @@ enum-told-2 : tie.Need-enum-told-2
 enum-told-2 c = search needs
 
 returns : tie.Need-returns
-returns c = ap (movedByteOf _) (sym (c .before .b .given .1) ∙ c .before .before .before .byte-at .ensures)
+returns c = ap (movedByteOf _) (sym (c .before .b .given .1) ∙ c .before .before .before .byte-at .ensures .0)
 
 returns-2 : tie.Need-returns-2
-returns-2 c = ap (movedByteOf _) (sym (c .enum-told .given .1) ∙ c .before .before .byte-at .ensures)
+returns-2 c = ap (movedByteOf _) (sym (c .enum-told .given .1) ∙ c .before .before .byte-at .ensures .0)
 
 returns-3 : tie.Need-returns-3
-returns-3 c = ap (movedByteOf _) (sym (c .enum-told2 .given .1) ∙ c .before .before .byte-at .ensures)
+returns-3 c = ap (movedByteOf _) (sym (c .enum-told2 .given .1) ∙ c .before .before .byte-at .ensures .0)
 
 pub byte-moved-spec : {M : Type 1} → statement M
 byte-moved-spec =

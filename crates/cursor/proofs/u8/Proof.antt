@@ -24,7 +24,9 @@ use Rattle.mem.specs.Memory.{lent}
 use Rattle.leb.specs.declared.Byte.{Byte}
 use Rattle.leb.proofs.Byte as S
 use Rattle.leb.proofs.Byte.Laws as S′
-use Rattle.cursor.specs.Cursor.{byteHere, movedByteOf, pastByte}
+use Rattle.leb.specs.Reader.{numberedByte}
+use Rattle.leb.proofs.Told.{byte-told}
+use Rattle.cursor.specs.Cursor.{byteHere, readByteHere, movedByteOf, pastByte}
 use Rattle.cursor.specs.declared.Bytes.{Bytes}
 use Rattle.cursor.specs.declared.MovedByte.{MovedByte}
 use Rattle.cursor.proofs.MovedByte as T
@@ -71,11 +73,16 @@ Promised x r c =
     let h = now (x .1 .1 .1 .1 .0) in
     let here = found (x .0) (x .1 .0) (x .1 .1 .0) (x .1 .1 .1 .0) h in
     (r ≡ here) × (c ≡ pastByte h here)
+    × (numberedByte r ≡ readByteHere (lent (now (x .0)) (x .1 .0) (now (x .1 .1 .0)) (x .1 .1 .1 .0) .regions) h)
 
 -- the answer beside the place after it is what is promised; where it does not move the cursor, that is the cursor that came
 keeps : (s : RefT (List ℕ)) (sb : ℕ) (t : RefT (List ℕ)) (tb b o : ℕ) (γ : GName) (h : Bytes) (m : MovedByte)
     → Good (number-args s sb t tb (h .pos) (h .end)) m → Promised (cursor-args s sb t tb b o γ h) (m .byte) (record { pos = m .pos; end = h .end })
-keeps s sb t tb b o γ h m e = (ap (λ (n : MovedByte). n .byte) e, ap (λ (n : MovedByte). record { pos = n .pos; end = h .end }) e)
+keeps s sb t tb b o γ h m e = (
+  ap (λ (n : MovedByte). n .byte) e,
+  ap (λ (n : MovedByte). record { pos = n .pos; end = h .end }) e,
+  ap (λ (n : MovedByte). numberedByte (n .byte)) e ∙ byte-told (lent (now s) sb (now t) tb .regions) (h .end) (h .pos),
+)
 
 stays : (s : RefT (List ℕ)) (sb : ℕ) (t : RefT (List ℕ)) (tb : ℕ) (h : Bytes) (m : MovedByte) → Good (number-args s sb t tb (h .pos) (h .end)) m
     → Holds (not (m .moved)) → h ≡ record { pos = m .pos; end = h .end }

@@ -22,7 +22,7 @@ use denote.Triple.Spec.{tripleOf}
 use denote.Triple.Table.{entered, cited}
 use Rattle.mem.specs.Memory.{lent}
 use Rattle.leb.specs.declared.Uleb.{Uleb}
-use Rattle.cursor.specs.Cursor.{ulebHere, movedOf, valueOf, past}
+use Rattle.cursor.specs.Cursor.{ulebHere, readHere, movedOf, valueOf, numberedValue, past}
 use Rattle.cursor.specs.declared.Bytes.{Bytes}
 use Rattle.cursor.specs.declared.Moved.{Moved}
 use Rattle.cursor.specs.declared.Value.{Value}
@@ -30,7 +30,7 @@ use Rattle.cursor.proofs.Moved as T
 use Rattle.cursor.proofs.Moved.Laws as T′
 use Rattle.cursor.proofs.Value as S
 use Rattle.cursor.proofs.Value.Laws as S′
-use Rattle.cursor.proofs.Cursor.{number-stays}
+use Rattle.cursor.proofs.Cursor.{here-told, number-stays}
 use Rattle.cursor.proofs.Params.{CursorArgs, cursor-args, NumberArgs, number-args}
 use Rattle.cursor.proofs.Reading.{Answer, meets}
 use Rattle.cursor.proofs.uleb_moved as moved
@@ -72,11 +72,16 @@ Promised x r c =
     let h = now (x .1 .1 .1 .1 .0) in
     let here = found (x .0) (x .1 .0) (x .1 .1 .0) (x .1 .1 .1 .0) h in
     (r ≡ valueOf here) × (c ≡ past h here)
+    × (numberedValue r ≡ readHere (lent (now (x .0)) (x .1 .0) (now (x .1 .1 .0)) (x .1 .1 .1 .0) .regions) h)
 
 -- the answer beside the place after it is what is promised; where it does not move the cursor, that is the cursor that came
 keeps : (s : RefT (List ℕ)) (sb : ℕ) (t : RefT (List ℕ)) (tb b o : ℕ) (γ : GName) (h : Bytes) (m : Moved)
     → Good (number-args s sb t tb (h .pos) (h .end)) m → Promised (cursor-args s sb t tb b o γ h) (m .value) (record { pos = m .pos; end = h .end })
-keeps s sb t tb b o γ h m e = (ap (λ (n : Moved). n .value) e, ap (λ (n : Moved). record { pos = n .pos; end = h .end }) e)
+keeps s sb t tb b o γ h m e = (
+  ap (λ (n : Moved). n .value) e,
+  ap (λ (n : Moved). record { pos = n .pos; end = h .end }) e,
+  ap (λ (n : Moved). numberedValue (n .value)) e ∙ here-told (lent (now s) sb (now t) tb .regions) h,
+)
 
 stays : (s : RefT (List ℕ)) (sb : ℕ) (t : RefT (List ℕ)) (tb : ℕ) (h : Bytes) (m : Moved) → Good (number-args s sb t tb (h .pos) (h .end)) m
     → Holds (not (m .moved)) → h ≡ record { pos = m .pos; end = h .end }

@@ -41,7 +41,7 @@ use Rattle.leb.specs.declared.Uleb.{Uleb}
 use Rattle.leb.proofs.Uleb as U
 use Rattle.leb.proofs.Uleb.Laws as U′
 use Rattle.cursor.specs.Cursor as Cursor
-use Rattle.cursor.specs.Cursor.{ulebHere, valueOf, past}
+use Rattle.cursor.specs.Cursor.{ulebHere, readHere, valueOf, numberedValue, past}
 use Rattle.cursor.specs.declared.Bytes.{Bytes}
 use Rattle.cursor.specs.declared.Value.{Value}
 use Rattle.cursor.proofs.Cursor.{together}
@@ -72,6 +72,7 @@ Said x r c =
     let h = now (x .1 .1 .1 .1 .0) in
     let here = ulebHere (lent (now (x .0)) (x .1 .0) (now (x .1 .1 .0)) (x .1 .1 .1 .0) .regions) h in
     (r ≡ valueOf here) × (c ≡ past h here)
+    × (numberedValue r ≡ readHere (lent (now (x .0)) (x .1 .0) (now (x .1 .1 .0)) (x .1 .1 .1 .0) .regions) h)
 
 abbrev Owed : NumberArgs → Uleb → Type 0
 Owed x r = r ≡ ulebAt (lent (now (x .0)) (x .1 .0) (now (x .1 .1 .0)) (x .1 .1 .1 .0) .regions) (x .1 .1 .1 .1 .1 .0) (x .1 .1 .1 .1 .0)
@@ -155,7 +156,7 @@ module _ {M : Type 1} (𝓤 : URA M) (H : Heap 𝓤) (A : Atoms 𝓤) (W : Given
         move ! (9 ∷ 10 ∷ []) $ free1 ! $ move ! (7 ∷ 8 ∷ []) $ free1 ! $ move ! (5 ∷ 6 ∷ []) $ free1 ! $ free0 ! $
         keep ! (0 ∷ 3 ∷ 4 ∷ []) $
         by ! (ends 𝓤 H A W U.the-row Owed κ q s sb t tb pos limit sb-fits tb-fits p-fits e-fits a z
-        (answer (record { pos = pos; end = limit }) _ r c a e e′))))))))))))))))))))
+        (answer (record { pos = pos; end = limit }) _ r c a (e .0, e .1) e′))))))))))))))))))))
 
 pub uleb-from-spec : {M : Type 1} → stated.statement M
 unfolding code.routine tablesOf

@@ -22,16 +22,16 @@ enum-told-3 c = search needs
 
 returns : tie.Need-returns
 returns c =
-    ap (movedOf _) (sym (c .before .v .given .1) ∙ c .before .before .before .uleb-at .ensures)
+    ap (movedOf _) (sym (c .before .v .given .1) ∙ c .before .before .before .uleb-at .ensures .0)
 
 returns-2 : tie.Need-returns-2
-returns-2 c = ap (movedOf _) (sym (c .enum-told .given .1) ∙ c .before .before .uleb-at .ensures)
+returns-2 c = ap (movedOf _) (sym (c .enum-told .given .1) ∙ c .before .before .uleb-at .ensures .0)
 
 returns-3 : tie.Need-returns-3
-returns-3 c = ap (movedOf _) (sym (c .enum-told2 .given .1) ∙ c .before .before .uleb-at .ensures)
+returns-3 c = ap (movedOf _) (sym (c .enum-told2 .given .1) ∙ c .before .before .uleb-at .ensures .0)
 
 returns-4 : tie.Need-returns-4
-returns-4 c = ap (movedOf _) (sym (c .enum-told3 .given .1) ∙ c .before .before .uleb-at .ensures)
+returns-4 c = ap (movedOf _) (sym (c .enum-told3 .given .1) ∙ c .before .before .uleb-at .ensures .0)
 
 pub uleb-moved-spec : {M : Type 1} → statement M
 uleb-moved-spec =

@@ -7,11 +7,12 @@ use Rattle.failure.specs.Outcome.{Refused, Answer}
 use Rattle.mem.specs.Word.{loaded, Below}
 use Rattle.mem.specs.declared.load.Word.{Word}
 use Rattle.leb.proofs.Reader.{byte-limit, byte-loaded}
+use Rattle.leb.proofs.Told.{byte-given}
 use Rattle.leb.proofs.byte_at.Statement.{statement}
 use Rattle.leb.proofs.byte_at.Tie as tie
 
 returns : tie.Need-returns
-returns c = byte-limit _ _ _ (c .if1 .taken)
+returns c = byte-given _ _ _ _ (byte-limit _ _ _ (c .if1 .taken))
 
 load-u8-requires : tie.Need-load-u8-requires
 load-u8-requires c κs = search needs
@@ -29,12 +30,14 @@ enum-told c = search needs
 returns-2 : tie.Need-returns-2
 returns-2 c =
     let at = c .before .before .before in
-    byte-loaded _ _ _ (at .before .if1 .left) (Answer _) (sym (ap loaded (c .before .b .given .1)) ∙ at .load-u8 .ensures .outcome)
+    byte-given _ _ _ _
+    (byte-loaded _ _ _ (at .before .if1 .left) (Answer _) (sym (ap loaded (c .before .b .given .1)) ∙ at .load-u8 .ensures .outcome))
 
 returns-3 : tie.Need-returns-3
 returns-3 c =
     let at = c .before .before in
-    byte-loaded _ _ _ (at .before .if1 .left) (Refused _) (sym (ap loaded (c .enum-told .given .1)) ∙ at .load-u8 .ensures .outcome)
+    byte-given _ _ _ _
+    (byte-loaded _ _ _ (at .before .if1 .left) (Refused _) (sym (ap loaded (c .enum-told .given .1)) ∙ at .load-u8 .ensures .outcome))
 
 pub byte-at-spec : {M : Type 1} → statement M
 byte-at-spec =

@@ -1,8 +1,8 @@
 -- `leb::read_uleb` meets its contract. Assumes nothing.
-use mathlib.Core.Path.{sym, _∙_, ap}
+use mathlib.Core.Path.{sym, _∙_}
 use borrow.Author.Needs.{needs}
 use borrow.Author.Tests.{not-true, not-false}
-use Rattle.leb.specs.Reader.{numbered, readUleb}
+use Rattle.leb.specs.Reader.{readUleb}
 use Rattle.leb.proofs.read_uleb.Statement.{statement}
 use Rattle.leb.proofs.read_uleb.Tie as tie
 
@@ -23,7 +23,7 @@ returns-2 : tie.Need-returns-2
 unfolding readUleb
 returns-2 c =
     simp (sym (c .before .before .before .opens .ensures) ∙ not-false _ (c .before .before .if1 .left))
-    (c .folded .ensures ∙ ap numbered (c .before .uleb-at .ensures))
+    (c .folded .ensures ∙ c .before .uleb-at .ensures .1)
 
 pub read-uleb-spec : {M : Type 1} → statement M
 read-uleb-spec =

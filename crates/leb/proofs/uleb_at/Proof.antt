@@ -5,6 +5,7 @@ use native.Mathlib.Omega.{arith}
 use Rattle.mem.specs.Memory.{lent}
 use Rattle.leb.proofs.Sofar.{Sofar, begin, weight-bound, turn, ends, ends-at-limit, ends-outside, over}
 use Rattle.leb.proofs.Reader.{byte-read}
+use Rattle.leb.proofs.Told.{uleb-given}
 use borrow.Author.Needs.{needs}
 use Rattle.leb.proofs.uleb_at.Statement.{statement}
 use Rattle.leb.proofs.uleb_at.Tie as tie
@@ -32,7 +33,7 @@ with-group-requires c κs =
 
 add-at : tie.Need-add-at Inv-loop μ-loop
 add-at c =
-    let read = sym (c .before .before .before .before .byte-at .ensures) ∙ c .before .before .b .given .1 in
+    let read = sym (c .before .before .before .before .byte-at .ensures .0) ∙ c .before .before .b .given .1 in
     omega (arith, byte-read _ _ _ _ read .0, c .before .before .before .before .before .before .before .before .before .fits .limit)
 
 at-most-32-bits-requires : tie.Need-at-most-32-bits-requires Inv-loop μ-loop
@@ -42,11 +43,12 @@ returns : tie.Need-returns Inv-loop μ-loop
 returns c =
     let group = c .before .before in
     let at = group .before .before .before .before in
-    c .at-most-32-bits .ensures
+    uleb-given _ _ _ _
+    (c .at-most-32-bits .ensures
     ∙ rw (group .with-group .ensures .0)
     (ends _ _ _ _ _ _ _ (at .before .before .loop .inv) (at .before .loop-test .taken) _
-    (sym (at .byte-at .ensures) ∙ group .before .before .b .given .1)
-    (c .before .if1 .taken))
+    (sym (at .byte-at .ensures .0) ∙ group .before .before .b .given .1)
+    (c .before .if1 .taken)))
 
 enum-told : tie.Need-enum-told Inv-loop μ-loop
 enum-told c = search needs
@@ -54,8 +56,9 @@ enum-told c = search needs
 returns-2 : tie.Need-returns-2 Inv-loop μ-loop
 returns-2 c =
     let at = c .before .before in
-    ends-at-limit _ _ _ _ _ _ _ (at .before .before .loop .inv) (at .before .loop-test .taken)
-    (sym (at .byte-at .ensures) ∙ c .enum-told .given .1)
+    uleb-given _ _ _ _
+    (ends-at-limit _ _ _ _ _ _ _ (at .before .before .loop .inv) (at .before .loop-test .taken)
+    (sym (at .byte-at .ensures .0) ∙ c .enum-told .given .1))
 
 enum-told-2 : tie.Need-enum-told-2 Inv-loop μ-loop
 enum-told-2 c = search needs
@@ -63,8 +66,9 @@ enum-told-2 c = search needs
 returns-3 : tie.Need-returns-3 Inv-loop μ-loop
 returns-3 c =
     let at = c .before .before in
-    ends-outside _ _ _ _ _ _ _ (at .before .before .loop .inv) (at .before .loop-test .taken)
-    (sym (at .byte-at .ensures) ∙ c .enum-told2 .given .1)
+    uleb-given _ _ _ _
+    (ends-outside _ _ _ _ _ _ _ (at .before .before .loop .inv) (at .before .loop-test .taken)
+    (sym (at .byte-at .ensures .0) ∙ c .enum-told2 .given .1))
 
 mul-weight : tie.Need-mul-weight Inv-loop μ-loop
 mul-weight c =
@@ -83,11 +87,11 @@ loop-again c =
     let at = group .before .before .before .before in
     rw (group .with-group .ensures .0)
     (turn _ _ _ _ _ _ _ (at .before .before .loop .inv) (at .before .loop-test .taken) _
-    (sym (at .byte-at .ensures) ∙ group .before .before .b .given .1)
+    (sym (at .byte-at .ensures .0) ∙ group .before .before .b .given .1)
     (c .if1 .left) (omega (arith, group .before .known-told)))
 
 returns-4 : tie.Need-returns-4 Inv-loop μ-loop
-returns-4 c = over _ _ _ _ _ _ _ (c .before .loop .inv) (c .loop-test .left)
+returns-4 c = uleb-given _ _ _ _ (over _ _ _ _ _ _ _ (c .before .loop .inv) (c .loop-test .left))
 
 pub uleb-at-spec : {M : Type 1} → statement M
 uleb-at-spec =

@@ -2,6 +2,8 @@
 use mathlib.Core.Path.{sym, _∙_}
 use borrow.Author.Needs.{needs}
 use borrow.Author.Tests.{not-true, not-false}
+use Rattle.state.specs.Public.{entry}
+use Rattle.state.proofs.Restore.{next-given}
 use Rattle.state.proofs.Public.{entry-known, entry-unknown}
 use Rattle.state.proofs.State.entry.Statement.{statement}
 use Rattle.state.proofs.State.entry.Tie as tie
@@ -14,14 +16,16 @@ at-entry-requires c κs = search needs
 
 returns : tie.Need-returns
 returns c =
-    entry-unknown _ _ (sym (c .before .before .is-known .ensures) ∙ not-true _ (c .before .if1 .taken)) (c .at-entry .ensures)
+    next-given _ (entry _) _
+    (entry-unknown _ _ (sym (c .before .before .is-known .ensures) ∙ not-true _ (c .before .if1 .taken)) (c .at-entry .ensures))
 
 at-entry-requires-2 : tie.Need-at-entry-requires-2
 at-entry-requires-2 c κs = search needs
 
 returns-2 : tie.Need-returns-2
 returns-2 c =
-    entry-known _ _ (sym (c .before .before .is-known .ensures) ∙ not-false _ (c .before .if1 .left)) (c .at-entry2 .ensures)
+    next-given _ (entry _) _
+    (entry-known _ _ (sym (c .before .before .is-known .ensures) ∙ not-false _ (c .before .if1 .left)) (c .at-entry2 .ensures))
 
 pub entry-spec : {M : Type 1} → statement M
 entry-spec =

@@ -6,4 +6,6 @@ pub mod Rows2
 pub mod Short
 pub mod Rising
 pub mod Prefix
+pub mod NotRefused
+pub mod Listed
 pub mod Section

@@ -33,7 +33,7 @@ checked-is pad action f e = go (valid pad action) refl
 
 module _ (m : Memory) (limit ret : ℕ) where
   -- rows past the offset do not have it
-  past : (left pos at : ℕ) → ret < at → rowAt ret (prefix left m limit pos at) ≡ None
+  pub past : (left pos at : ℕ) → ret < at → rowAt ret (prefix left m limit pos at) ≡ None
   past zero pos at h = refl
   past (suc left) pos at h = first (λ n next. past left next n) (uleb m limit pos) refl
     where

@@ -3,5 +3,6 @@ pub mod Row
 pub mod Handler
 pub mod Handler2
 pub mod Prefix
+pub mod NotRefused
 pub mod Answers
 pub mod Held

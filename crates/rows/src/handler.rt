@@ -235,6 +235,7 @@ fn u32_at(section: &[u8], k: usize) -> usize
     requires { ⌜ k + 4 ≤ length (now section) ⌝ }
     ensures { λ r. ⌜ (r ≡ wordAt (now (section .entry)) k) × (r < 2 ^ 32) ⌝ }
 {
+    // the lowest byte comes first: byte i counts 256^i
     wide(section[k])
         + 0x100 * wide(section[k + 1])
         + 0x1_0000 * wide(section[k + 2])
@@ -275,7 +276,9 @@ fn left_breaks_in(
     requires { ⌜ RowAt (now section) base table count k offset ⌝ }
     ensures { λ r. ⌜ Answer r ≡ Handler.leftBreaks (alone (now (section .entry)) base) table (number base table k) offset ⌝ }
 {
+    // 1 for the first row, else 0
     let first = (k == table - base + 4) as usize;
+    // past the first row: offset < left + 1, so offset <= left; for the first: offset < offset, which is false
     offset < u32_at(section, k + 12 * first - 12) + 1 - first
 }
 
@@ -294,7 +297,9 @@ fn right_breaks_in(
         Handler.rightBreaks (alone (now (section .entry)) base) table count (number base table k) offset
         ⌝ }
 {
+    // 1 for the last row, else 0
     let last = (k + 12 == table - base + 4 + 12 * count) as usize;
+    // before the last row: right <= offset; for the last: offset + 1 <= offset, which is false
     u32_at(section, k + 12 - 12 * last) + last <= offset
 }
 
@@ -330,6 +335,7 @@ fn handler_in(section: &[u8], base: usize, table: usize, ret: usize) -> Row
     let mut at = start + 4;
     let mut n = count;
     while 0 < n {
+        // the row with n / 2 rows below it
         let middle = at + 12 * (n / 2);
         let offset = u32_at(section, middle);
         if offset == ret {
@@ -339,6 +345,7 @@ fn handler_in(section: &[u8], base: usize, table: usize, ret: usize) -> Row
         if !down {
             at = middle + 12;
         }
+        // below the middle are n / 2 rows, above it (n - 1) / 2
         n = (n - 1 + down as usize) / 2;
     }
     Row::None

@@ -57,6 +57,7 @@ fn matched<'a>(
         ⌝ }
 {
     if left == 0 {
+        // bits 0 and 1 are the action, those above the pad
         return checked(word / 4, word % 4);
     }
     match number(section, section_base, stack, stack_base, limit, pos) {
@@ -65,6 +66,7 @@ fn matched<'a>(
             if delta == 0 {
                 return Row::Refused(EKO_AMBIGUOUS_CALL_SITE);
             }
+            // bits 0 and 1 are the action, those above the pad
             checked(word / 4, word % 4)
         }
     }
@@ -273,6 +275,7 @@ fn number_in(section: &[u8], base: usize, limit: usize, pos: usize) -> Short
     let middle = wide(section[second - base]);
     let third = second + 1;
     if middle < 128 {
+        // two groups of seven bits, the low one first: bit 7 of its byte says that more follow
         return Short::Is(low - 128 + 128 * middle, third);
     }
     if limit <= third {
@@ -280,6 +283,7 @@ fn number_in(section: &[u8], base: usize, limit: usize, pos: usize) -> Short
     }
     let high = wide(section[third - base]);
     if high < 128 {
+        // three groups of seven bits, the lowest first
         return Short::Is(low - 128 + 128 * (middle - 128 + 128 * high), third + 1);
     }
     Short::Long
@@ -376,6 +380,7 @@ fn settled(word: usize) -> Row
     if word == NO_ROW {
         return Row::None;
     }
+    // bits 0 and 1 are the action, those above the pad
     checked(word / 4, word % 4)
 }
 

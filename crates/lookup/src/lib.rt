@@ -112,6 +112,7 @@ fn u8_at(part: &[u8], k: usize) -> u8
     requires { ⌜ k + 1 ≤ length (now part) ⌝ }
     ensures { λ r. ⌜ r ≡ word (now (part .entry)) k 1 ⌝ }
 {
+    // the byte is the number
     part[k]
 }
 
@@ -120,6 +121,7 @@ fn u16_at(part: &[u8], k: usize) -> u32
     requires { ⌜ k + 2 ≤ length (now part) ⌝ }
     ensures { λ r. ⌜ r ≡ word (now (part .entry)) k 2 ⌝ }
 {
+    // the low byte comes first, the high one counts 256
     wide(part[k]) + 0x100 * wide(part[k + 1])
 }
 
@@ -128,6 +130,7 @@ fn u32_at(part: &[u8], k: usize) -> u32
     requires { ⌜ k + 4 ≤ length (now part) ⌝ }
     ensures { λ r. ⌜ r ≡ word (now (part .entry)) k 4 ⌝ }
 {
+    // the lowest byte comes first: byte i counts 256^i
     wide(part[k])
         + 0x100 * wide(part[k + 1])
         + 0x1_0000 * wide(part[k + 2])
@@ -215,6 +218,7 @@ fn start_at(part: &[u8], base: usize, k: usize) -> usize
     requires { ⌜ k + 4 ≤ length (now part) ⌝ }
     ensures { λ r. ⌜ r ≡ startAt (now (part .entry)) base k ⌝ }
 {
+    // the address of the record plus its first word, which is signed
     wrapping::add(wrapping::add(base, k), wrapping::extend(u32_at(part, k)))
 }
 
@@ -223,6 +227,7 @@ fn end_at(part: &[u8], base: usize, k: usize) -> usize
     requires { ⌜ k + 8 ≤ length (now part) ⌝ }
     ensures { λ r. ⌜ r ≡ endAt (now (part .entry)) base k ⌝ }
 {
+    // the start plus the second word, the length
     wrapping::add(start_at(part, base, k), u32_at(part, k + 4) as usize)
 }
 
@@ -259,6 +264,7 @@ fn handlers2(chunk: usize, data: u32) -> usize
     if data < DATA_HANDLERS {
         return 0;
     }
+    // bits 0 to 30 are the program's offset in the chunk
     wrapping::add(chunk, (data % DATA_HANDLERS) as usize)
 }
 
@@ -267,6 +273,7 @@ fn record_at2(part: &[u8], base: usize, chunk: usize, limit: usize, k: usize) ->
     requires { ⌜ k + 12 ≤ length (now part) ⌝ }
     ensures { λ r. ⌜ r ≡ recordAt2 (now (part .entry)) base chunk limit k ⌝ }
 {
+    // bit 31: a row table follows the program; bits 0 to 30: the program's offset in the chunk
     let data = u32_at(part, k + 8);
     Record {
         start: start_at(part, base, k),
@@ -309,19 +316,26 @@ fn halve(part: &[u8], base: usize, c: Chunk, pc: usize) -> usize
     requires { ⌜ Inside (now part) c × (0 < c .count) ⌝ }
     ensures { λ r. ⌜ Stands c (halved (now (part .entry)) base c pc) r ⌝ }
 {
+    // the first of the records left, and how many they are
     let mut at = c.offset + HEADER;
     let mut width = c.count;
+    // the record with half of them, rounded down, below it
     let mut middle = at + c.count / 2 * c.stride;
+    // as many turns as this has binary digits: then even the larger half is one record
     let mut turns = c.count - 1;
     while 0 < turns {
+        // how many are below the middle, and how many from it on
         let half = width / 2;
         let rest = width - half;
+        // the middle of those below, and of the rest
         let low = at + half / 2 * c.stride;
         let high = middle + rest / 2 * c.stride;
+        // those below are left where pc is below the middle's start, else the rest
         let down = pc < start_at(part, base, middle);
         at = choice(down, at, middle);
         width = choice(down, half, rest);
         middle = choice(down, low, high);
+        // one binary digit less
         turns = turns / 2;
     }
     at

@@ -96,6 +96,7 @@ fn le1(b: &[u8]) -> usize
     requires { ⌜ length (now b) ≡ 1 ⌝ }
     ensures { λ r. ⌜ (r ≡ littleEndian (now (b .entry))) × (r < 256 ^ 1) ⌝ }
 {
+    // the byte is the number
     wide(b[0])
 }
 
@@ -104,6 +105,7 @@ fn le4(b: &[u8]) -> usize
     requires { ⌜ length (now b) ≡ 4 ⌝ }
     ensures { λ r. ⌜ (r ≡ littleEndian (now (b .entry))) × (r < 256 ^ 4) ⌝ }
 {
+    // the lowest byte comes first: byte i counts 256^i
     wide(b[0]) + 0x100 * wide(b[1]) + 0x1_0000 * wide(b[2]) + 0x100_0000 * wide(b[3])
 }
 
@@ -112,6 +114,7 @@ fn le8(b: &[u8]) -> usize
     requires { ⌜ length (now b) ≡ 8 ⌝ }
     ensures { λ r. ⌜ (r ≡ littleEndian (now (b .entry))) × (r < 256 ^ 8) ⌝ }
 {
+    // the lowest byte comes first: byte i counts 256^i
     wide(b[0])
         + 0x100 * wide(b[1])
         + 0x1_0000 * wide(b[2])

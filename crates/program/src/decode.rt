@@ -89,6 +89,7 @@ fn form_named(code: u8) -> Form
 pub fn form_of(code: u8) -> Form
     ensures { λ r. ⌜ r ≡ Operation.formOf code ⌝ }
 {
+    // a number in the byte counts from the first byte of its range: 00, 40, 80 or e0
     let n = code as u32;
     if code == 0 {
         return Form::Whole(Op::End);

@@ -270,6 +270,7 @@ fn advance(at: usize, n: u32, arch: u8, off: usize) -> Step
 {
     let a = numbers(arch);
     let by = n as usize * a.unit;
+    // at + by is 2^64 or more
     if usize::MAX - at < by {
         return Step::Refused(BAD_EKO_RECORD);
     }

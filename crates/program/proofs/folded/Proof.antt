@@ -2,7 +2,7 @@
 use mathlib.Core.Path.{sym, ap}
 use borrow.Author.Needs.{needs}
 use Rattle.state.specs.declared.Status.{Status}
-use Rattle.state.specs.Answers.{changed, changeBy, nextIn}
+use Rattle.state.specs.Answers.{toldBy, nextIn}
 use Rattle.program.proofs.folded.Statement.{statement}
 use Rattle.program.proofs.folded.Tie as tie
 
@@ -21,22 +21,22 @@ enum-told-4 c = search needs
 returns : tie.Need-returns
 returns c =
     λ regs slots. let n = c .before .before .args in
-    sym (ap (λ (s : Status). changed (changeBy s (nextIn (n .fp) (n .units) (n .c) regs slots .state))) (c .enum-told .given .1))
+    sym (ap (λ (s : Status). toldBy s (nextIn (n .fp) (n .units) (n .c) regs slots .state)) (c .enum-told .given .1))
 
 returns-2 : tie.Need-returns-2
 returns-2 c =
     λ regs slots. let n = c .before .before .args in
-    sym (ap (λ (s : Status). changed (changeBy s (nextIn (n .fp) (n .units) (n .c) regs slots .state))) (c .enum-told2 .given .1))
+    sym (ap (λ (s : Status). toldBy s (nextIn (n .fp) (n .units) (n .c) regs slots .state)) (c .enum-told2 .given .1))
 
 returns-3 : tie.Need-returns-3
 returns-3 c =
     λ regs slots. let n = c .before .before .args in
-    sym (ap (λ (s : Status). changed (changeBy s (nextIn (n .fp) (n .units) (n .c) regs slots .state))) (c .enum-told3 .given .1))
+    sym (ap (λ (s : Status). toldBy s (nextIn (n .fp) (n .units) (n .c) regs slots .state)) (c .enum-told3 .given .1))
 
 returns-4 : tie.Need-returns-4
 returns-4 c =
     λ regs slots. let n = c .before .before .args in
-    sym (ap (λ (s : Status). changed (changeBy s (nextIn (n .fp) (n .units) (n .c) regs slots .state))) (c .enum-told4 .given .1))
+    sym (ap (λ (s : Status). toldBy s (nextIn (n .fp) (n .units) (n .c) regs slots .state)) (c .enum-told4 .given .1))
 
 pub folded-spec : {M : Type 1} → statement M
 folded-spec =

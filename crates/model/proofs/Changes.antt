@@ -16,7 +16,7 @@ use Rattle.arch.specs.File.{pcColumn}
 use Rattle.frame.specs.Layout.{Pair}
 use Rattle.model.specs.Machine.{Open, Machine, column, isRegister, value, archOf}
 use Rattle.model.specs.Described.{isSpilled}
-use Rattle.model.specs.Event.{notSpNorPc, changeAllowed, reloadAllowed, unspilled, reloading, withRegisters, withFrames, change, reload, move}
+use Rattle.model.specs.Event.{notSpNorPc, changeAllowed, reloadAllowed, unspilled, reloading, withRegisters, withFrames, change, reload, move, moveAllowed}
 use Rattle.model.proofs.Chain.{Kept, AllLive, Inner, Inv}
 use Rattle.model.proofs.Guard.{each}
 use Rattle.model.proofs.Allowed.{if-allowed, if-open}
@@ -132,6 +132,6 @@ reload-keeps m reg i =
 pub move-keeps : (m : Machine) (to : ℕ) → Inv m → Inv (move m to (m .frames))
 move-keeps m to i =
     if-open Inv m (move m to) i λ (f : Open) (fs : List Open) here.
-    if-allowed m _ (leb to (f .cfa)) i λ (g : leb to (f .cfa) ≡ true).
+    if-allowed m _ (moveAllowed f to) i λ (g : moveAllowed f to ≡ true).
     let low = leb-true to (f .cfa) g in
     setting m f fs here i (archOf m .sp) to (omega (arith, small-cfa m f fs here i)) (λ e. low)

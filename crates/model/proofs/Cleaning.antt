@@ -92,7 +92,7 @@ module _ (ts : Tables) (frames : List Open) where
     pub rest : List LandingPad
     pub is : o ≡ Answer (Cleanup.Install number pad next)
     pub first : ls ≡ landing ∷ rest
-    pub same : compared (numbers (ts .arch)) (Cleanup.Install number pad next) ≡ Installed landing
+    pub same : compared (numbers (ts .arch)) (Cleanup.Install number pad next) ≡ Installed 7 landing
     pub after : At c next rest
     pub passes : n < next .number
 

@@ -10,7 +10,7 @@ use Rattle.failure.specs.Choice.{if_then_else_}
 use Rattle.arch.specs.Arch.{Arch, numbers}
 use Rattle.arch.specs.File.{sp}
 use Rattle.rows.specs.Row.{Found, None, Pad, cleanup, catch}
-use Rattle.model.specs.Search.{Searched, Chosen, Stopped, Ended}
+use Rattle.model.specs.Search.{Searched, Chosen, Stopped, Ended, reasonOf, Coded, coded, told}
 use Rattle.model.specs.Machine.{Machine, Tables}
 use Rattle.model.specs.Throw.{Throw, Standing, framesAt, rowOf}
 use Rattle.model.specs.Expected.{LandingPad, padOf, outcomeBy, outcomeFrom, padsBy, padsFrom, outcome, due, dueBy}
@@ -180,18 +180,43 @@ module _ (ts : Tables) where
   up-to n [] k p e = let z : _≡_ {A = ℕ} 0 1 = cc in absurd (omega arith)
   up-to n (x ∷ ss) k p e = up-by n x ss k p (rowOf ts x) refl e (λ q. up-to (n + 1) ss k p q)
 
+-- document 01's numbers tell the cases of a throw apart
+is-3 : (o : Searched) → reasonOf o ≡ 3 → o ≡ Stopped
+is-3 (Chosen k p) e = absurd (omega (arith, e))
+is-3 Stopped e = refl
+is-3 Ended e = absurd (omega (arith, e))
+
+is-5 : (o : Searched) → reasonOf o ≡ 5 → o ≡ Ended
+is-5 (Chosen k p) e = absurd (omega (arith, e))
+is-5 Stopped e = absurd (omega (arith, e))
+is-5 Ended e = refl
+
+is-6 : (o : Searched) (k p : ℕ) → told o ≡ coded 6 (k ∷ p ∷ []) → o ≡ Chosen k p
+is-6 (Chosen n s) k p e =
+    let values : n ∷ s ∷ [] ≡ k ∷ p ∷ [] = ap (λ (c : Coded). c .values) e in
+    let number : n ≡ k = cc in
+    let sp : s ≡ p = cc in
+    rw (number, sp)
+is-6 Stopped k p e = let code : _≡_ {A = ℕ} 3 6 = ap (λ (c : Coded). c .code) e in absurd (omega arith)
+is-6 Ended k p e = let code : _≡_ {A = ℕ} 5 6 = ap (λ (c : Coded). c .code) e in absurd (omega arith)
+
 -- exactly, of every machine and throw
 pub exactly : (m : Machine) (t : Throw) → Exactly m t
 unfolding outcome due
 exactly m t =
     record {
-      stops = stops ts 0 ss;
-      ends = ends ts 0 ss;
-      chooses = chooses ts 0 ss;
-      nothing = (λ e. none (outcome m t) refl e, λ e. ⊎-elim (λ (o : outcome m t ≡ Stopped). rw o) (λ (o : outcome m t ≡ Ended). rw o) e);
-      lands = λ k p e. subst (UpToCatch ts 0 ss k) (sym (ap (λ (o : Searched). dueBy o ls) e)) (up-to ts 0 ss k p e);
+      stops = (λ e. stops ts 0 ss .0 (is-3 o e), λ f. ap reasonOf (stops ts 0 ss .1 f));
+      ends = (λ e. ends ts 0 ss .0 (is-5 o e), λ f. ap reasonOf (ends ts 0 ss .1 f));
+      chooses = λ k p. (λ e. chooses ts 0 ss k p .0 (is-6 o k p e), λ f. ap told (chooses ts 0 ss k p .1 f));
+      nothing = (none o refl, ⊎-elim (λ (e : reasonOf o ≡ 3). rw (is-3 o e)) (λ (e : reasonOf o ≡ 5). rw (is-5 o e)));
+      lands = λ k p e.
+          let is : o ≡ Chosen k p = is-6 o k p e in
+          subst (UpToCatch ts 0 ss k) (sym (ap (λ (x : Searched). dueBy x ls) is)) (up-to ts 0 ss k p is);
     }
   where
+    o : Searched
+    o = outcomeFrom (m .tables) 0 (framesAt m t)
+
     ts : Tables
     ts = m .tables
 
@@ -205,9 +230,9 @@ exactly m t =
     some [] l e = let z : _≡_ {A = ℕ} 0 1 = cc in absurd (omega arith)
     some (k ∷ ks) l e = let z : _≡_ {A = ℕ} 0 1 = cc in absurd (omega arith)
 
-    none : (o : Searched) → outcome m t ≡ o → dueBy o ls ≡ [] → (outcome m t ≡ Stopped) ⊎ (outcome m t ≡ Ended)
+    none : (x : Searched) → o ≡ x → dueBy x ls ≡ [] → (reasonOf x ≡ 3) ⊎ (reasonOf x ≡ 5)
     none (Chosen k p) e d =
         let u = up-to ts 0 ss k p e in
         absurd (some (u .cleanups) (u .last) (sym (u .split) ∙ d))
-    none Stopped e d = inl e
-    none Ended e d = inr e
+    none Stopped e d = inl refl
+    none Ended e d = inr refl

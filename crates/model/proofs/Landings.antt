@@ -27,7 +27,7 @@ use Rattle.model.proofs.Walks.{stood}
 pub record Lands (arch exception n : ℕ) (interrupted : Bool) (file file′ : List ℕ) (f : Open) (pad : ℕ) (next : Frame) : Type 0 where
   pub there : List ℕ
   pub is : installPad (numbers arch) exception (frame n interrupted file′) (f .entry .function) pad next ≡ Answer (Cleanup.Install n there next)
-  pub same : compared (numbers arch) (Cleanup.Install n there next) ≡ Installed (padOf (numbers arch) n (stood interrupted file f) pad)
+  pub same : compared (numbers arch) (Cleanup.Install n there next) ≡ Installed 7 (padOf (numbers arch) n (stood interrupted file f) pad)
 
 -- files with the same values of some registers
 map-same : (a : Arch) (g file : List ℕ) (all regs : List ℕ) →

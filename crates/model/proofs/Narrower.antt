@@ -25,6 +25,7 @@ module _ (Wide Narrow : Kind) (is : (u : Unwinding) (c : ResumeCall) → Narrow 
   narrower m t exception every =
       record {
         throws = every .throws;
+        exactly = every .exactly;
         lands = λ cs a.
             let u : Unwinding = unwindingOf m t exception in
             let l = every .lands cs (admissible cs u a) in

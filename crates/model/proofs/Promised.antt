@@ -10,7 +10,8 @@ use Rattle.mem.specs.Memory.{Region, Lent}
 use Rattle.mem.specs.Opening.{opens}
 use Rattle.model.specs.declared.Unwinding.{Unwinding}
 use Rattle.model.specs.Cleanup.{Cleaned}
-use Rattle.model.specs.Unwinding.{frame0, raise, raised, resume, resumed}
+use Rattle.model.specs.Search.{Searched, told, toldBy}
+use Rattle.model.specs.Unwinding.{raise, raised, resume, resumed}
 use Rattle.model.specs.Machine.{Machine, archOf, lentBy}
 use Rattle.model.specs.Throw.{throwAllowed}
 use Rattle.model.specs.Sound.{SoundTables, Sound}
@@ -21,7 +22,7 @@ use Rattle.model.specs.LiveStack.{Usable}
 use Rattle.model.specs.Call.{after, currentAfter, nth, comparedAs, Thrown, machineAt, AtThrow, Throws, Sweeps, GivesNext}
 use Rattle.model.proofs.Chain.{Inv}
 use Rattle.model.proofs.Calls.{current-answered, current-refused, Due, Serves, serves}
-use Rattle.model.proofs.Usable.{own-live, regular-usable}
+use Rattle.model.proofs.Usable.{own-live, own-regular, regular-usable}
 use Rattle.model.proofs.Corollaries.{other-inv, other-allowed, other-sound}
 use Rattle.model.proofs.Steps.{steps-inv}
 use Rattle.model.proofs.Theorem.{walks, throws, starts}
@@ -52,7 +53,7 @@ module _ (m : Machine) (i : Inv m) (tables : SoundTables (m .tables)) where
 
   -- a regular call is served
   regular-served : (u : Unwinding) (ls : List LandingPad) → Due m u ls → Serves m u ls (callOf m u)
-  regular-served u ls d = served u ls (callOf m u) (regular-usable m i u) d
+  regular-served u ls d = served u ls (callOf m u) (regular-usable m i u (callOf m u) (own-regular m (i .accepted) u)) d
 
   -- call number n from an unwinding on, where each is lent what the machine lends
   abbrev given : ℕ → Unwinding → Outcome Compared
@@ -147,16 +148,16 @@ opened-by l k e h = subst (λ (x : Lent). opens x ≡ true) e h
 
 -- the contract of `raise`
 pub raise-throws : (l : Lent) (arch : ℕ) (file : List ℕ) (pc : ℕ) (interrupted : Bool) →
-    Throws l arch file pc interrupted (raise l arch file pc interrupted)
+    Throws l arch file pc interrupted (toldBy (raise l arch file pc interrupted))
 unfolding raisedBy
 raise-throws l arch file pc interrupted a =
     rw (a .isLent, a .isArch, a .isFile, a .isPc, a .isInterrupted)
-    (throws-over (a .thrown) (a .stack) (opened-by l _ (a .isLent) (a .accepted)) (a .same))
+    (ap toldBy (throws-over (a .thrown) (a .stack) (opened-by l _ (a .isLent) (a .accepted)) (a .same)))
 
 -- the contract of `unwind`
 pub unwind-sweeps : (l : Lent) (arch : ℕ) (file : List ℕ) (pc : ℕ) (interrupted : Bool) (exception n : ℕ) →
     Sweeps l arch file pc interrupted n
-    (resume l arch (after n l arch (raised (frame0 file pc interrupted) exception (raise l arch file pc interrupted))))
+    (resume l arch (after n l arch (raised file pc interrupted exception (raise l arch file pc interrupted))))
 unfolding raisedBy unwindingOf answerOf
 unwind-sweeps l arch file pc interrupted exception n a =
     rw (a .isLent, a .isArch, a .isFile, a .isPc, a .isInterrupted)

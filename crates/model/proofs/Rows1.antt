@@ -1,18 +1,17 @@
--- The row that the code finds in a version 1 table is that of the table's list of rows, whatever else is lent. Assumes nothing.
-use mathlib.Core.Path.{_≡_, refl, sym, _∙_, ap, subst}
+-- The row that the code finds in a version 1 table is that of the table's list of rows, and is not refused exactly where the list says so,
+-- whatever else is lent. Assumes nothing.
+use mathlib.Core.Path.{_≡_, refl, _∙_, ap, subst}
 use mathlib.Core.Bool.{Bool, true, false, _&&_}
 use mathlib.Core.List.{List, [], _∷_}
-use mathlib.Core.Logic.{_⊎_, inl, inr, ⊎-elim}
 use Prim.Native.Nat.{ℕ, zero, suc, _+_, _*_, _^_, _≤_, _<_}
 use native.Mathlib.Nat.{add-zero, zero-add}
 use native.Mathlib.Numerals.{add-one}
 use native.Mathlib.Omega.{arith}
 use lib.Dec.{eqb, ltb, lit<}
 use lib.ListN.{length, getD}
-use borrow.Author.Tests.{eqb-true, eqb-false, ltb-true}
-use Rattle.failure.specs.Choice.{if_then_else_}
+use borrow.Author.Tests.{eqb-true, ltb-true}
 use Rattle.failure.specs.Outcome.{Outcome, Refused, Answer, _>>=_}
-use Rattle.failure.specs.Failure.{BadEkoRecord, OutsideMemory}
+use Rattle.failure.specs.Failure.{OutsideMemory}
 use Rattle.mem.specs.Memory.{Region, Memory, Bytes, size}
 use Rattle.mem.specs.Place.{holds, bytesAt}
 use Rattle.mem.specs.Word.{load}
@@ -20,19 +19,15 @@ use Rattle.mem.specs.Wrapping.{sum}
 use Rattle.mem.proofs.Tests.{both}
 use Rattle.mem.proofs.Place.{holds-range}
 use Rattle.mem.proofs.Bytes.{load-below}
-use Rattle.rows.specs.Row.{Found, None, Pad, valid, checked}
 use Rattle.rows.specs.Handler.{Entry, row, entryAt, handler}
 use Rattle.rows.specs.Prefix.{rowAt}
-use Rattle.rows.proofs.Rising.{Rising, there, nowhere}
+use Rattle.rows.specs.NotRefused.{notRefused, noneOrWellFormed}
+use Rattle.rows.proofs.Rising.{Rising}
+use Rattle.rows.proofs.Listed.{nth, handler-not-refused, handler-is}
 use Rattle.rows.proofs.Section.{handler-same}
 use Rattle.model.specs.Throw.{readable, rowsFrom1, rows1}
-use Rattle.model.specs.Sound.{risesFrom, rises, counts, wholeTable, notRefused}
+use Rattle.model.specs.Sound.{risesFrom, rises, counts, wholeTable}
 use Rattle.model.proofs.InSection.{Bounds}
-use Rattle.model.proofs.Rows2.{answer-of}
-
--- row i of a list
-abbrev nth : List Entry → ℕ → Entry
-nth es i = getD es i (row 0 0 0)
 
 -- a list that rises does so from each row to the next
 rises-at : (e : Entry) (es : List Entry) → risesFrom e es ≡ true → (i : ℕ) → suc i < length (e ∷ es) →
@@ -46,45 +41,6 @@ rises-at e (f ∷ es) h (suc i) l =
 rising : (es : List Entry) → rises es ≡ true → (i : ℕ) → i + 1 < length es → nth es i .offset < nth es (i + 1) .offset
 rising [] h i l = absurd (omega arith)
 rising (e ∷ es) h i l = rw add-one (rises-at e es h i (omega arith))
-
--- the row of an offset in a list is one of its rows
-record RowOf (ret : ℕ) (es : List Entry) (i : ℕ) : Type 0 where
-  pub within : i < length es
-  pub at : nth es i .offset ≡ ret
-  pub is : rowAt ret es ≡ Pad (nth es i .pad) (nth es i .action)
-
-record Is (ret : ℕ) (es : List Entry) : Type 0 where
-  pub index : ℕ
-  pub row : RowOf ret es index
-
--- or no row has that offset
-record IsNone (ret : ℕ) (es : List Entry) : Type 0 where
-  pub other : (i : ℕ) → i < length es → nth es i .offset ≡ ret → ⊥
-  pub is : rowAt ret es ≡ None
-
--- one of the two
-row-at : (ret : ℕ) (es : List Entry) → Is ret es ⊎ IsNone ret es
-row-at ret [] = inr (record { other = λ i l. absurd (omega arith); is = refl })
-row-at ret (e ∷ es) = go (eqb (e .offset) ret) refl (row-at ret es)
-  where
-    go : (t : Bool) → eqb (e .offset) ret ≡ t → Is ret es ⊎ IsNone ret es → Is ret (e ∷ es) ⊎ IsNone ret (e ∷ es)
-    go true p rest = inl (record { index = 0; row = record { within = omega arith; at = eqb-true (e .offset) ret p; is = rw p } })
-    go false p (inl x) =
-        inl (record { index = suc (x .index); row = record { within = omega (arith, x .row .within); at = x .row .at; is = rw p (x .row .is) } })
-    go false p (inr x) = inr (record { other = others; is = rw p (x .is) })
-      where
-        others : (i : ℕ) → i < length (e ∷ es) → nth (e ∷ es) i .offset ≡ ret → ⊥
-        others zero l = eqb-false (e .offset) ret p
-        others (suc i) l = x .other i (omega arith)
-
--- a checked row that is answered is that row
-checked-is : (pad action : ℕ) (f : Found) → checked pad action ≡ Answer f → f ≡ Pad pad action
-unfolding checked
-checked-is pad action f = go (valid pad action)
-  where
-    go : (t : Bool) → (if t then Answer (Pad pad action) else Refused BadEkoRecord) ≡ Answer f → f ≡ Pad pad action
-    go true e = sym cc
-    go false e = let z : _≡_ {A = ℕ} 0 1 = cc in absurd (omega arith)
 
 -- where all rows can be read, each is what stands there
 each-row : (m : Memory) (table n i : ℕ) → length (rowsFrom1 n m table i) ≡ n → (j : ℕ) → j < n →
@@ -191,32 +147,25 @@ module _ (section : Region) (b : Bounds section) (bytes : (k : ℕ) → getD (se
           let last = entry-in section table n (nth (rows1 (section ∷ []) table) n) (w .rising .each n (omega arith)) in
           (first .0, omega (arith, last, first .1, few, b .below, b .small))
 
-  -- the row of an offset that is not refused is that of the list
-  found1 : (m : Memory) (ret : ℕ) → notRefused (handler (section ∷ []) table ret) ≡ true →
-      handler (section ∷ m) table ret ≡ Answer (rowAt ret (rows1 (section ∷ []) table))
-  found1 m ret good =
+  -- it is read in the section
+  in-section : (m : Memory) (ret : ℕ) → handler (section ∷ m) table ret ≡ handler (section ∷ []) table ret
+  in-section m ret =
       handler-same section m [] table (w .count) (table-in .0) (table-in .1) (omega (arith, b .below, b .small)) ret (w .rising .counted)
-      ∙ ⊎-elim is none (row-at ret (rows1 (section ∷ []) table))
-    where
-      es : List Entry
-      es = rows1 (section ∷ []) table
 
-      is : Is ret es → handler (section ∷ []) table ret ≡ Answer (rowAt ret es)
-      is x =
-          let e = nth es (x .index) in
-          let here : handler (section ∷ []) table ret ≡ checked (e .pad) (e .action) =
-          ap (λ (k : ℕ). handler (section ∷ []) table k) (sym (x .row .at))
-          ∙ there (section ∷ []) table (w .count) (nth es) (w .rising) (x .index) (omega (arith, x .row .within, w .long)) in
-          answer-of (handler (section ∷ []) table ret) (rowAt ret es) good
-          (λ f p. checked-is (e .pad) (e .action) f (sym here ∙ p) ∙ sym (x .row .is))
+module _ (section : Region) (m : Memory) (table ret : ℕ) (b : Bounds section) (bytes : (k : ℕ) → getD (section .bytes) k 0 < 256)
+    (h : wholeTable (section ∷ []) table ≡ true) where
+  abbrev w : Whole (section ∷ []) table
+  w = whole (section ∷ []) table h
 
-      none : IsNone ret es → handler (section ∷ []) table ret ≡ Answer (rowAt ret es)
-      none x =
-          nowhere (section ∷ []) table (w .count) (nth es) (w .rising) ret (λ i l. x .other i (omega (arith, w .long)))
-          ∙ ap Answer (sym (x .is))
+  -- when the row of a version 1 table that is whole is not refused
+  pub row-not-refused1 : notRefused (handler (section ∷ m) table ret) ≡ noneOrWellFormed (rowAt ret (rows1 (section ∷ []) table))
+  row-not-refused1 =
+      ap notRefused (in-section section b bytes table w m ret)
+      ∙ handler-not-refused (section ∷ []) table (rows1 (section ∷ []) table) (w .count) (w .long) (w .rising) ret
 
--- the row of a version 1 table that is whole
-pub row-found1 : (section : Region) (m : Memory) (table ret : ℕ) → Bounds section → ((k : ℕ) → getD (section .bytes) k 0 < 256) →
-    wholeTable (section ∷ []) table ≡ true → notRefused (handler (section ∷ []) table ret) ≡ true →
-    handler (section ∷ m) table ret ≡ Answer (rowAt ret (rows1 (section ∷ []) table))
-row-found1 section m table ret b bytes h good = found1 section b bytes table (whole (section ∷ []) table h) m ret good
+  -- then it is that of the list
+  pub row-found1 : noneOrWellFormed (rowAt ret (rows1 (section ∷ []) table)) ≡ true →
+      handler (section ∷ m) table ret ≡ Answer (rowAt ret (rows1 (section ∷ []) table))
+  row-found1 good =
+      in-section section b bytes table w m ret
+      ∙ handler-is (section ∷ []) table (rows1 (section ∷ []) table) (w .count) (w .long) (w .rising) ret good

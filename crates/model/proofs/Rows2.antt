@@ -1,4 +1,5 @@
--- The row that the code finds in a version 2 table is that of the table's list of rows, whatever else is lent. Assumes nothing.
+-- The row that the code finds in a version 2 table is that of the table's list of rows, and is not refused exactly where the list says so,
+-- whatever else is lent. Assumes nothing.
 use mathlib.Core.Path.{_≡_, refl, sym, _∙_, ap}
 use mathlib.Core.Bool.{true, false}
 use mathlib.Core.List.{[], _∷_}
@@ -12,21 +13,16 @@ use Rattle.arch.specs.Arch.{Arch}
 use Rattle.lookup.specs.declared.Record.{Record}
 use Rattle.program.specs.Run.{Ran, run}
 use Rattle.program.proofs.Offsets.{whole-at-32-bits}
-use Rattle.rows.specs.Row.{Found}
 use Rattle.rows.specs.Handler2.{handler2}
-use Rattle.rows.specs.Prefix.{rowsOf, rowAt}
+use Rattle.rows.specs.Prefix.{rowAt}
+use Rattle.rows.specs.NotRefused.{notRefused, answered}
 use Rattle.rows.proofs.Section.{handler2-same}
-use Rattle.rows.proofs.Prefix.{handler2-answers}
+use Rattle.rows.proofs.NotRefused.{handler2-not-refused, handler2-is}
 use Rattle.personality.specs.Reason.{rowAfter}
 use Rattle.model.specs.Throw.{rows2}
-use Rattle.model.specs.Sound.{readsToEnd, notRefused}
+use Rattle.model.specs.Sound.{readsToEnd, ending2}
 use Rattle.model.proofs.InSection.{Lies, run-lies}
 use Rattle.model.proofs.After.{after-above}
-
--- an outcome that is not refused is the answer that every answer of it is
-pub answer-of : (o : Outcome Found) (x : Found) → notRefused o ≡ true → ((f : Found) → o ≡ Answer f → f ≡ x) → o ≡ Answer x
-answer-of (Refused n) x e each = let z : _≡_ {A = ℕ} 0 1 = cc in absurd (omega arith)
-answer-of (Answer f) x e each = ap Answer (each f refl)
 
 -- a run that reads to END
 record Ended (o : Outcome Ran) : Type 0 where
@@ -62,21 +58,25 @@ module _ (a : Arch) (section : Region) (r : Record) (l : Lies section r)
       ∙ sym (whole-at-32-bits (section ∷ []) a (r .program) (r .limit) (e .ran) (e .whole) (e .is)) ∙ e .is in
       rw ran (handler2-same section m [] (r .limit) (l .limit) (e .ran .after) ret from-base)
 
-  -- so a row that is not refused is that of the list
-  found2 : (m : Memory) → notRefused (rowAfter a (section ∷ []) r ret) ≡ true →
-      rowAfter a (section ∷ m) r ret ≡ Answer (rowAt ret (rows2 a (section ∷ []) r))
-  unfolding rows2
-  found2 m good =
-      after-in m
-      ∙ rw (e .is)
-      (answer-of (handler2 (section ∷ []) (e .ran .after) (r .limit) ret) (rowAt ret (rowsOf (section ∷ []) (e .ran .after) (r .limit)))
-      (rw (after-in []) at good)
-      (λ f p. handler2-answers (section ∷ []) (e .ran .after) (r .limit) ret f p))
+  -- so it is not refused exactly where it is answered by the table's rows
+  not-refused2 : (m : Memory) →
+      notRefused (rowAfter a (section ∷ m) r ret) ≡ answered ret (rows2 a (section ∷ []) r) (ending2 a (section ∷ []) r)
+  unfolding rows2 ending2
+  not-refused2 m = ap notRefused (after-in m) ∙ rw (e .is) (handler2-not-refused (section ∷ []) (e .ran .after) (r .limit) ret)
 
--- the row of a version 2 record whose program reads to END
-pub row-found2 : (a : Arch) (section : Region) (m : Memory) (r : Record) (ret : ℕ) → Lies section r →
-    readsToEnd (run (section ∷ []) a (r .program) (r .limit) (2 ^ 32 - 1)) ≡ true →
-    notRefused (rowAfter a (section ∷ []) r ret) ≡ true →
-    rowAfter a (section ∷ m) r ret ≡ Answer (rowAt ret (rows2 a (section ∷ []) r))
-row-found2 a section m r ret l whole good =
-    found2 a section r l (ended (run (section ∷ []) a (r .program) (r .limit) (2 ^ 32 - 1)) whole) ret m good
+  -- and then is that of the list
+  found2 : (m : Memory) → answered ret (rows2 a (section ∷ []) r) (ending2 a (section ∷ []) r) ≡ true →
+      rowAfter a (section ∷ m) r ret ≡ Answer (rowAt ret (rows2 a (section ∷ []) r))
+  unfolding rows2 ending2
+  found2 m good = after-in m ∙ rw (e .is) (handler2-is (section ∷ []) (e .ran .after) (r .limit) ret (rw (e .is) at good))
+
+module _ (a : Arch) (section : Region) (m : Memory) (r : Record) (ret : ℕ) (l : Lies section r)
+    (whole : readsToEnd (run (section ∷ []) a (r .program) (r .limit) (2 ^ 32 - 1)) ≡ true) where
+  -- when the row of a version 2 record whose program reads to END is not refused
+  pub row-not-refused2 : notRefused (rowAfter a (section ∷ m) r ret) ≡ answered ret (rows2 a (section ∷ []) r) (ending2 a (section ∷ []) r)
+  row-not-refused2 = not-refused2 a section r l (ended (run (section ∷ []) a (r .program) (r .limit) (2 ^ 32 - 1)) whole) ret m
+
+  -- then it is that of the list
+  pub row-found2 : answered ret (rows2 a (section ∷ []) r) (ending2 a (section ∷ []) r) ≡ true →
+      rowAfter a (section ∷ m) r ret ≡ Answer (rowAt ret (rows2 a (section ∷ []) r))
+  row-found2 good = found2 a section r l (ended (run (section ∷ []) a (r .program) (r .limit) (2 ^ 32 - 1)) whole) ret m good

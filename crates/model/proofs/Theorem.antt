@@ -15,7 +15,7 @@ use Rattle.arch.specs.File.{pcColumn, sp, pc}
 use Rattle.lookup.specs.Record.{holds}
 use Rattle.model.specs.FrameStep.{lookedUp}
 use Rattle.model.specs.Search.{Searched, Chosen, Stopped, Ended, search}
-use Rattle.model.specs.Unwinding.{frame0, raise, raised}
+use Rattle.model.specs.Unwinding.{raise, raised}
 use Rattle.model.specs.Machine.{Open, Machine, lentBy, archOf, lookedAt}
 use Rattle.model.specs.Described.{described}
 use Rattle.model.specs.Event.{steps}
@@ -39,6 +39,7 @@ use Rattle.model.proofs.Steps.{steps-inv}
 use Rattle.model.proofs.Calls.{opened-known, Due, None, Some, calls}
 use Rattle.model.proofs.Usable.{regular-usable}
 use Rattle.model.proofs.Narrower.{narrower}
+use Rattle.model.proofs.Exactly.{exactly}
 
 module _ (m : Machine) (i : Inv m) where
   -- tables and memory serve the phases, beside every stack that opens
@@ -122,7 +123,7 @@ module _ (m : Machine) (i : Inv m) where
     starts exception = rw throws (go (outcome m t) refl)
       where
         go : (o : Searched) → outcome m t ≡ o →
-            Due m (raised (frame0 (m .registers) (t .pc) (t .interrupted)) exception (Answer o))
+            Due m (raised (m .registers) (t .pc) (t .interrupted) exception (Answer o))
             (dueBy o (padsFrom (m .tables) 0 (framesAt m t)))
         go (Chosen k p) e =
             Some refl
@@ -146,6 +147,7 @@ pub every-landing-live : (m : Machine) → Inv m → (t : Throw) → throwAllowe
 every-landing-live m i t allowed s exception =
     record {
       throws = throws m i t allowed s;
+      exactly = exactly m t;
       lands =
           λ cs a.
           calls m (i .known) (i .live) (walks m i (s .tables)) cs (unwindingOf m t exception) (due m t)
@@ -156,7 +158,7 @@ every-landing-live m i t allowed s exception =
 pub every-landing : (m : Machine) → Inv m → (t : Throw) → throwAllowed m t ≡ true → Sound m t → (exception : ℕ) →
     EveryLanding (Regular m) m t exception
 every-landing m i t allowed s exception =
-    narrower (Usable m) (Regular m) (λ u c e. subst (Usable m u) (sym e) (regular-usable m i u)) m t exception
+    narrower (Usable m) (Regular m) (regular-usable m i) m t exception
     (every-landing-live m i t allowed s exception)
 
 -- every landing, and no other, over a live stack

@@ -10,7 +10,7 @@ use Rattle.mem.specs.Memory.{Region, Lent}
 use Rattle.mem.specs.Opening.{opens}
 use Rattle.arch.specs.Arch.{Arch}
 use Rattle.model.specs.declared.Unwinding.{Unwinding}
-use Rattle.model.specs.Search.{Searched}
+use Rattle.model.specs.Search.{Coded, told}
 use Rattle.model.specs.Cleanup.{Cleaned}
 use Rattle.model.specs.Unwinding.{resume, resumed}
 use Rattle.model.specs.Machine.{Machine, Fresh, archOf, lentBy}
@@ -35,7 +35,7 @@ currentAfter u (c ∷ cs) = currentAfter (current u c) cs
 -- answer number n, counted from 0: the landings, then finished
 abbrev pub nth : ℕ → List LandingPad → Compared
 nth n [] = Finished
-nth zero (l ∷ ls) = Installed l
+nth zero (l ∷ ls) = Installed 7 l
 nth (suc n) (l ∷ ls) = nth n ls
 
 -- an outcome of a sweep call as it is compared: its answer, or a refusal
@@ -69,10 +69,10 @@ pub record AtThrow (l : Lent) (arch : ℕ) (file : List ℕ) (pc : ℕ) (interru
   pub isPc : pc ≡ thrown .throw .pc
   pub isInterrupted : interrupted ≡ thrown .throw .interrupted
 
--- then the throw answers the machine's outcome
-abbrev pub Throws : Lent → ℕ → List ℕ → ℕ → Bool → Outcome Searched → Type 0
+-- then the throw answers the machine's outcome, by document 01's number and values
+abbrev pub Throws : Lent → ℕ → List ℕ → ℕ → Bool → Outcome Coded → Type 0
 Throws l arch file pc interrupted raised =
-    (a : AtThrow l arch file pc interrupted) → raised ≡ Answer (outcome (machineAt (a .thrown)) (a .thrown .throw))
+    (a : AtThrow l arch file pc interrupted) → raised ≡ Answer (told (outcome (machineAt (a .thrown)) (a .thrown .throw)))
 
 -- and sweep call number n, after n that are lent the same, gives number n of the landings due, or finished
 abbrev pub Sweeps : Lent → ℕ → List ℕ → ℕ → Bool → ℕ → Outcome Cleaned → Type 0

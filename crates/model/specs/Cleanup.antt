@@ -1,6 +1,6 @@
 -- The cleanup phase: the next landing of an unwinding (document 01, "Walk, throw and call machine": a sweep call).
 use mathlib.Core.Bool.{_&&_}
-use mathlib.Core.List.{List}
+use mathlib.Core.List.{List, [], _∷_}
 use Prim.Native.Nat.{ℕ, zero, suc}
 use lib.Dec.{eqb, ltb}
 use Rattle.failure.specs.Choice.{if_then_else_}
@@ -13,6 +13,7 @@ use Rattle.lookup.specs.declared.Record.{Record}
 use Rattle.rows.specs.Row.{Found, None, Pad, cleanup, catch}
 use Rattle.personality.specs.Reason.{rowOf, installed, installContext, fatalPhase2}
 use Rattle.model.specs.FrameStep.{Frame, Step, End, Past, frameStep}
+use Rattle.model.specs.Search.{Coded, coded}
 
 -- the frame that the search chose
 pub record Choice : Type 0 where
@@ -30,6 +31,17 @@ abbrev pub reasonOf : Cleaned → ℕ
 reasonOf (Install number file next) = installContext
 reasonOf Fatal = fatalPhase2
 reasonOf Finished = 0
+
+-- the frame's number and the file at its pad go with 7
+abbrev pub valuesOf : Cleaned → List ℕ
+valuesOf (Install number file next) = number ∷ file
+valuesOf Fatal = []
+valuesOf Finished = []
+
+-- document 01's number and values for what a sweep call comes to
+abbrev pub toldBy : Outcome Cleaned → Outcome Coded
+toldBy (Refused n) = Refused n
+toldBy (Answer x) = Answer (coded (reasonOf x) (valuesOf x))
 
 -- the landing of a frame; the walk goes on from its caller
 unfoldable pub installPad : Arch → ℕ → Frame → Record → ℕ → Frame → Outcome Cleaned

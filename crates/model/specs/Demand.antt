@@ -6,19 +6,22 @@ use mathlib.Core.Path.{_≡_}
 use Prim.Native.Nat.{ℕ}
 use lib.ListN.{length}
 use Rattle.failure.specs.Outcome.{Outcome, Refused, Answer}
-use Rattle.mem.specs.Memory.{Lent}
+use Rattle.mem.specs.Memory.{Region, Lent}
+use Rattle.mem.specs.Opening.{opens}
 use Rattle.arch.specs.Arch.{Arch}
 use Rattle.arch.specs.File.{sp, pc}
 use Rattle.model.specs.declared.Unwinding.{Unwinding}
 use Rattle.model.specs.Cleanup as Cleanup
-use Rattle.model.specs.Cleanup.{Cleaned}
+use Rattle.model.specs.Cleanup.{Cleaned, reasonOf}
 use Rattle.model.specs.Search.{Searched}
-use Rattle.model.specs.Unwinding.{frame0, raise, raised, resume, resumed}
+use Rattle.model.specs.Unwinding.{raise, raised, resume, resumed}
 use Rattle.model.specs.Machine.{Machine, Fresh, archOf, lentBy, value}
 use Rattle.model.specs.Event.{Event, steps}
 use Rattle.model.specs.Throw.{Throw, throwAllowed}
 use Rattle.model.specs.Sound.{Sound}
 use Rattle.model.specs.Expected.{Compared, Installed, Fatal, Finished, outcome, due, firstOf}
+use Rattle.model.specs.Exactly.{Exactly}
+use Rattle.model.specs.OtherStack.{withStack}
 
 -- a sweep call: any architecture, anything lent, any unwinding
 pub record ResumeCall : Type 0 where
@@ -34,9 +37,14 @@ answerOf c = resume (c .lent) (c .arch) (c .unwinding)
 abbrev pub callOf : Machine → Unwinding → ResumeCall
 callOf m u = record { arch = m .tables .arch; lent = lentBy m; unwinding = u }
 
--- a regular call: the throw's architecture, the same bytes at the same addresses, and the current unwinding
-abbrev pub Regular : Machine → Unwinding → ResumeCall → Type 0
-Regular m u c = c ≡ callOf m u
+-- a regular call: the throw's architecture and section, the current unwinding, and a stack that opens beside that section and lends what
+-- the throw's did, the same bytes at the same addresses; an empty one lends none, wherever it begins
+pub record Regular (m : Machine) (u : Unwinding) (c : ResumeCall) : Type 0 where
+  pub stack : Region
+  pub is : c ≡ callOf (withStack m stack) u
+  pub accepted : opens (lentBy (withStack m stack)) ≡ true
+  pub bytes : stack .bytes ≡ m .stack .bytes
+  pub base : (stack .bytes ≡ []) ⊎ (stack .base ≡ m .stack .base)
 
 -- the current unwinding after a call that was given v and came to that: what it returned, unless it was refused
 abbrev pub currentBy : Unwinding → Unwinding → Outcome Cleaned → Unwinding
@@ -71,11 +79,12 @@ abbrev pub Served : Kind → Unwinding → List ResumeCall → Type 0
 Served Of u [] = Unit
 Served Of u (c ∷ cs) = (Of u c → IsRefused (answerOf c) → ⊥) × Served Of (current u c) cs
 
--- an answer as it is compared: of a landing the frame number, sp, pc and preserved registers
+-- an answer as it is compared, by document 01's number: of a landing the frame number, sp, pc and preserved registers
 abbrev pub compared : Arch → Cleaned → Compared
 compared a (Cleanup.Install number file next) =
-    Installed (record { number = number; sp = sp a file; pc = pc file; preserved = map (value a file) (a .preserved) })
-compared a Cleanup.Fatal = Fatal
+    Installed (reasonOf (Cleanup.Install number file next))
+    (record { number = number; sp = sp a file; pc = pc file; preserved = map (value a file) (a .preserved) })
+compared a Cleanup.Fatal = Fatal (reasonOf Cleanup.Fatal)
 compared a Cleanup.Finished = Finished
 
 -- one call's answer before the rest, unless it is refused
@@ -94,13 +103,14 @@ raisedBy m t = raise (lentBy m) (m .tables .arch) (m .registers) (t .pc) (t .int
 
 -- the unwinding that it hands back
 unfoldable pub unwindingOf : Machine → Throw → ℕ → Unwinding
-unwindingOf m t exception = raised (frame0 (m .registers) (t .pc) (t .interrupted)) exception (raisedBy m t)
+unwindingOf m t exception = raised (m .registers) (t .pc) (t .interrupted) exception (raisedBy m t)
 
--- every landing, and no other, after a throw: it answers the first catch's number and sp, or 3, or 5; and for every list of sweep
--- calls, each of a kind or refused, none of that kind is refused, and the answers, however many, are the first of: the landings due,
--- in order, then finished again and again
+-- every landing, and no other, after a throw: it answers the first catch's number and sp, or 3, or 5, exactly where these are due; and
+-- for every list of sweep calls, each of a kind or refused, none of that kind is refused, and the answers, however many, are the first
+-- of: the landings due, in order, then finished again and again
 pub record EveryLanding (Of : Kind) (m : Machine) (t : Throw) (exception : ℕ) : Type 0 where
   pub throws : raisedBy m t ≡ Answer (outcome m t)
+  pub exactly : Exactly m t
   pub lands : (cs : List ResumeCall) → Admissible Of (unwindingOf m t exception) cs →
       Served Of (unwindingOf m t exception) cs
       × (answers (archOf m) cs ≡ firstOf (length (answers (archOf m) cs)) (due m t))

@@ -173,10 +173,14 @@ reload m reg (f ∷ fs) =
     (reloading f reg ∷ fs)
     else m
 
--- a move of sp in the innermost frame: at most to its CFA
+-- the rule of a move: at most to the frame's CFA
+abbrev pub moveAllowed : Open → ℕ → Bool
+moveAllowed f to = leb to (f .cfa)
+
+-- a move of sp in the innermost frame
 abbrev pub move : Machine → ℕ → List Open → Machine
 move m to [] = m
-move m to (f ∷ fs) = if leb to (f .cfa) then withRegisters m (setSp (archOf m) (m .registers) to) else m
+move m to (f ∷ fs) = if moveAllowed f to then withRegisters m (setSp (archOf m) (m .registers) to) else m
 
 -- a write to the stack
 abbrev pub write : Machine → ℕ → ℕ → Machine

@@ -8,7 +8,7 @@ use Rattle.arch.specs.Arch.{numbers}
 use Rattle.arch.specs.File as File
 use Rattle.rows.specs.Row as Row
 use Rattle.rows.specs.Row.{Found, None, Pad, cleanup}
-use Rattle.model.specs.Search.{Chosen, Stopped, Ended}
+use Rattle.model.specs.Search.{reasonOf, coded, told}
 use Rattle.model.specs.Machine.{Tables, Machine}
 use Rattle.model.specs.Throw.{Throw, Standing, framesAt, rowOf}
 use Rattle.model.specs.Expected.{LandingPad, padOf, outcome, due}
@@ -81,11 +81,11 @@ pub record UpToCatch (ts : Tables) (n : ℕ) (ss : List Standing) (k : ℕ) (ls 
   pub catch : PadAt ts n ss Row.catch k last
   pub rises : Rising n ls
 
--- exactly: 3 where the first row that is catch or terminate is terminate; 5 where there is neither; otherwise that catch is chosen.
--- No landing is due where 3 or 5 is answered; otherwise those up to the catch
+-- exactly, by document 01's numbers: 3 where the first row that is catch or terminate is terminate; 5 where there is neither; otherwise
+-- 6 with that catch's number and sp. No landing is due where 3 or 5 is answered; otherwise those up to the catch
 pub record Exactly (m : Machine) (t : Throw) : Type 0 where
-  pub stops : outcome m t ≡ Stopped ↔ First (m .tables) 0 (framesAt m t) Terminate
-  pub ends : outcome m t ≡ Ended ↔ Neither (m .tables) 0 (framesAt m t)
-  pub chooses : (k sp : ℕ) → outcome m t ≡ Chosen k sp ↔ FirstCatch (m .tables) 0 (framesAt m t) k sp
-  pub nothing : due m t ≡ [] ↔ (outcome m t ≡ Stopped) ⊎ (outcome m t ≡ Ended)
-  pub lands : (k sp : ℕ) → outcome m t ≡ Chosen k sp → UpToCatch (m .tables) 0 (framesAt m t) k (due m t)
+  pub stops : reasonOf (outcome m t) ≡ 3 ↔ First (m .tables) 0 (framesAt m t) Terminate
+  pub ends : reasonOf (outcome m t) ≡ 5 ↔ Neither (m .tables) 0 (framesAt m t)
+  pub chooses : (k sp : ℕ) → told (outcome m t) ≡ coded 6 (k ∷ sp ∷ []) ↔ FirstCatch (m .tables) 0 (framesAt m t) k sp
+  pub nothing : due m t ≡ [] ↔ (reasonOf (outcome m t) ≡ 3) ⊎ (reasonOf (outcome m t) ≡ 5)
+  pub lands : (k sp : ℕ) → told (outcome m t) ≡ coded 6 (k ∷ sp ∷ []) → UpToCatch (m .tables) 0 (framesAt m t) k (due m t)

@@ -66,13 +66,14 @@ outcome m t = outcomeFrom (m .tables) 0 (framesAt m t)
 unfoldable pub due : Machine → Throw → List LandingPad
 due m t = dueBy (outcome m t) (padsFrom (m .tables) 0 (framesAt m t))
 
--- an answer of a sweep call, as it is compared
+-- an answer of a sweep call, as it is compared: a landing with its number, another answer's number, or finished
 pub data Compared : Type 0 where
-  Installed : LandingPad → Compared
-  Fatal Finished : Compared
+  Installed : (code : ℕ) (pad : LandingPad) → Compared
+  Fatal : (code : ℕ) → Compared
+  Finished : Compared
 
--- the first n answers: the landings, then finished for ever
+-- the first n answers: the landings, each with 7, then finished for ever
 abbrev pub firstOf : ℕ → List LandingPad → List Compared
 firstOf zero ls = []
 firstOf (suc n) [] = Finished ∷ firstOf n []
-firstOf (suc n) (l ∷ ls) = Installed l ∷ firstOf n ls
+firstOf (suc n) (l ∷ ls) = Installed 7 l ∷ firstOf n ls

@@ -1,4 +1,5 @@
 -- The search phase of a throw (document 01, "Walk, throw and call machine").
+use mathlib.Core.List.{List, [], _∷_}
 use Prim.Native.Nat.{ℕ, zero, suc}
 use lib.Dec.{eqb}
 use Rattle.failure.specs.Choice.{if_then_else_}
@@ -25,6 +26,30 @@ abbrev pub reasonOf : Searched → ℕ
 reasonOf (Chosen number sp) = handlerFound
 reasonOf Stopped = fatalPhase1
 reasonOf Ended = endOfStack
+
+-- an answer as document 01 gives it: its number, and the values that go with it
+pub record Coded : Type 0 where
+  pub code : ℕ
+  pub values : List ℕ
+
+-- by both
+abbrev pub coded : ℕ → List ℕ → Coded
+coded code values = record { code = code; values = values }
+
+-- the chosen frame's number and sp go with 6, nothing with 3 and 5
+abbrev pub valuesOf : Searched → List ℕ
+valuesOf (Chosen number sp) = number ∷ sp ∷ []
+valuesOf Stopped = []
+valuesOf Ended = []
+
+-- document 01's number and values for each case
+abbrev pub told : Searched → Coded
+told x = coded (reasonOf x) (valuesOf x)
+
+-- the same of what a throw comes to
+abbrev pub toldBy : Outcome Searched → Outcome Coded
+toldBy (Refused n) = Refused n
+toldBy (Answer x) = Answer (told x)
 
 -- the code of a row in the search phase: 8 for none or cleanup, 6 catch, 3 terminate
 abbrev pub searchCode : Found → ℕ

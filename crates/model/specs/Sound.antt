@@ -1,5 +1,5 @@
 -- A sound section (document 01: "Sound section"): its tables, and the row tables of the open frames.
-use mathlib.Core.Bool.{Bool, true, false, not, _&&_}
+use mathlib.Core.Bool.{Bool, true, false, not, _&&_, _||_}
 use mathlib.Core.List.{List, [], _∷_}
 use mathlib.Core.Path.{_≡_}
 use Prim.Native.Nat.{ℕ, _-_, _^_}
@@ -9,16 +9,16 @@ use Rattle.failure.specs.Choice.{if_then_else_}
 use Rattle.failure.specs.Outcome.{Outcome, Refused, Answer}
 use Rattle.mem.specs.Memory.{Memory}
 use Rattle.mem.specs.Word.{load}
-use Rattle.arch.specs.Arch.{numbers}
+use Rattle.arch.specs.Arch.{Arch, numbers}
 use Rattle.arch.specs.File.{pc}
 use Rattle.lookup.specs.declared.Record.{Record}
 use Rattle.lookup.specs.Sound.{sound}
 use Rattle.program.specs.Run.{Ran, run}
-use Rattle.rows.specs.Row.{Found}
 use Rattle.rows.specs.Handler.{Entry}
-use Rattle.personality.specs.Reason as Reason
+use Rattle.rows.specs.Prefix.{rowAt}
+use Rattle.rows.specs.NotRefused.{Ending, Cut, endingOf, answered, noneOrWellFormed}
 use Rattle.model.specs.Machine.{Tables, Machine, tablesAlone}
-use Rattle.model.specs.Throw.{Throw, Standing, framesAt, recordOf, rows1}
+use Rattle.model.specs.Throw.{Throw, Standing, framesAt, recordOf, rows1, rowsIn}
 
 -- offsets rise strictly after a row
 abbrev pub risesFrom : Entry → List Entry → Bool
@@ -44,11 +44,6 @@ abbrev pub readsToEnd : Outcome Ran → Bool
 readsToEnd (Refused n) = false
 readsToEnd (Answer ran) = not (eqb (ran .after) 0)
 
--- a row is not refused
-abbrev pub notRefused : Outcome Found → Bool
-notRefused (Refused n) = false
-notRefused (Answer row) = true
-
 -- a frame's table, if it has one: version 1's is whole and rises strictly; the program before version 2's reads to END at offset
 -- 2^32 - 1
 unfoldable pub goodTable : Tables → Record → Bool
@@ -57,11 +52,27 @@ goodTable ts r =
     else if eqb (r .version) 2 then readsToEnd (run (tablesAlone ts) (numbers (ts .arch)) (r .program) (r .limit) (2 ^ 32 - 1))
     else wholeTable (tablesAlone ts) (r .handlers)
 
--- a frame's table is good, and its row is not refused
+-- how the readable rows of a version 2 table end, its program's run being given
+abbrev pub endingAfter : Memory → ℕ → Outcome Ran → Ending
+endingAfter m limit (Refused n) = Cut
+endingAfter m limit (Answer ran) = endingOf m (ran .after) limit
+
+-- how those of a record's end
+unfoldable pub ending2 : Arch → Memory → Record → Ending
+ending2 a m r = endingAfter m (r .limit) (run m a (r .program) (r .limit) (2 ^ 32 - 1))
+
+-- the row of an offset in a record's table is not refused, said of the table's rows: version 2's is answered; version 1's table has no
+-- row with the offset, or a well-formed one
+unfoldable pub goodRow : Tables → Record → ℕ → Bool
+goodRow ts r ret =
+    if eqb (r .version) 2 then answered ret (rowsIn ts r) (ending2 (numbers (ts .arch)) (tablesAlone ts) r)
+    else noneOrWellFormed (rowAt ret (rowsIn ts r))
+
+-- a frame's table is good, and its row is not refused: interrupted or without a table it has none
 unfoldable pub goodFrame : Tables → Standing → Bool
 goodFrame ts s =
     goodTable ts (recordOf s)
-    && notRefused (Reason.rowOf (numbers (ts .arch)) (tablesAlone ts) (s .interrupted) (recordOf s) (pc (s .file)))
+    && (s .interrupted || eqb (recordOf s .handlers) 0 || goodRow ts (recordOf s) (pc (s .file) - recordOf s .start))
 
 -- that holds of each frame
 abbrev pub goodFrames : Tables → List Standing → Bool

@@ -56,12 +56,16 @@ choosing f exception number sp =
       «chosen_sp» = sp;
     }
 
--- the unwinding that `raise` hands back: at frame 0, with the chosen frame if one was chosen
-abbrev pub raised : Frame → ℕ → Outcome Searched → Unwinding
-raised f exception (Refused n) = unchosen f exception
-raised f exception (Answer (Chosen number sp)) = choosing f exception number sp
-raised f exception (Answer Stopped) = unchosen f exception
-raised f exception (Answer Ended) = unchosen f exception
+-- frame 0 with the registers that came in
+abbrev pub given : List ℕ → Bool → Frame
+given file interrupted = record { number = 0; interrupted = interrupted; file = file }
+
+-- the unwinding that `raise` hands back: at frame 0, with the chosen frame if one was chosen; for a refusal with the file that came in
+abbrev pub raised : List ℕ → ℕ → Bool → ℕ → Outcome Searched → Unwinding
+raised file at interrupted exception (Refused n) = unchosen (given file interrupted) exception
+raised file at interrupted exception (Answer (Chosen number sp)) = choosing (frame0 file at interrupted) exception number sp
+raised file at interrupted exception (Answer Stopped) = unchosen (frame0 file at interrupted) exception
+raised file at interrupted exception (Answer Ended) = unchosen (frame0 file at interrupted) exception
 
 -- the frame that comes next
 abbrev pub frameOf : Unwinding → Frame

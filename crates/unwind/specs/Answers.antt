@@ -1,6 +1,6 @@
 -- Document 01's number and values for each case of this crate's answers.
 use mathlib.Core.Bool.{Bool, true, false}
-use mathlib.Core.List.{List}
+use mathlib.Core.List.{List, [], _∷_}
 use Prim.Native.Nat.{ℕ}
 use Rattle.failure.specs.Outcome as Outcome
 use Rattle.failure.specs.Outcome.{Outcome, Answer}
@@ -9,11 +9,11 @@ use Rattle.model.specs.declared.Unwinding.{Unwinding}
 use Rattle.model.specs.FrameStep as Walk
 use Rattle.model.specs.FrameStep.{Frame, Step}
 use Rattle.model.specs.Search as Search
-use Rattle.model.specs.Search.{Searched}
+use Rattle.model.specs.Search.{Searched, Coded, coded}
 use Rattle.model.specs.Cleanup as Cleanup
 use Rattle.model.specs.Cleanup.{Cleaned}
 use Rattle.model.specs.Unwinding as Unwinding
-use Rattle.model.specs.Unwinding.{frame0, raised, resumed}
+use Rattle.model.specs.Unwinding.{raised, resumed}
 use Rattle.model.specs.Demand.{ResumeCall}
 use Rattle.model.specs.Call.{after}
 use Rattle.mem.specs.Memory.{Lent}
@@ -61,9 +61,16 @@ raiseOf (Answer (Search.Chosen number sp)) = raise.Chosen number sp
 raiseOf (Answer Search.Stopped) = raise.Stopped
 raiseOf (Answer Search.Ended) = raise.Ended
 
--- a throw from a frame 0, with the unwinding that it hands back
-abbrev pub raisedBy : Frame → ℕ → Outcome Searched → Raised
-raisedBy f exception o = record { answer = raiseOf o; unwinding = raised f exception o }
+-- document 01's number and values for each case: 6 with the chosen frame's number and sp, 3, 5, or a refusal's number
+abbrev pub raiseTold : RaiseAnswer → Outcome Coded
+raiseTold (raise.Chosen number sp) = Answer (coded 6 (number ∷ sp ∷ []))
+raiseTold raise.Stopped = Answer (coded 3 [])
+raiseTold raise.Ended = Answer (coded 5 [])
+raiseTold (raise.Refused n) = Outcome.Refused n
+
+-- a throw of registers at a pc, with the unwinding that it hands back
+abbrev pub raisedBy : List ℕ → ℕ → Bool → ℕ → Outcome Searched → Raised
+raisedBy file pc interrupted exception o = record { answer = raiseOf o; unwinding = raised file pc interrupted exception o }
 
 -- what a sweep call comes to
 abbrev pub resumeOf : Outcome Cleaned → ResumeAnswer
@@ -71,6 +78,14 @@ resumeOf (Outcome.Refused n) = resume.Refused n
 resumeOf (Answer (Cleanup.Install number file next)) = resume.Install number
 resumeOf (Answer Cleanup.Fatal) = resume.Fatal
 resumeOf (Answer Cleanup.Finished) = resume.Finished
+
+-- document 01's number and values for each case, with the file beside it: 7 with the frame's number and the file at its pad, 2, finished,
+-- which has no number there and is 0 here, or a refusal's number
+abbrev pub resumeTold : ResumeAnswer → List ℕ → Outcome Coded
+resumeTold (resume.Install number) file = Answer (coded 7 (number ∷ file))
+resumeTold resume.Fatal file = Answer (coded 2 [])
+resumeTold resume.Finished file = Answer (coded 0 [])
+resumeTold (resume.Refused n) file = Outcome.Refused n
 
 -- the file at the landing's pad; otherwise the one that came in
 abbrev pub fileOf : List ℕ → Outcome Cleaned → List ℕ
@@ -119,5 +134,5 @@ unwoundBy n l arch file pc interrupted exception =
     record {
       raised = raiseOf (Unwinding.raise l arch file pc interrupted);
       resumed =
-          callNumber n l arch (raised (frame0 file pc interrupted) exception (Unwinding.raise l arch file pc interrupted));
+          callNumber n l arch (raised file pc interrupted exception (Unwinding.raise l arch file pc interrupted));
     }

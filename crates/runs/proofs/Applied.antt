@@ -8,28 +8,24 @@ use lib.ListN.{length}
 use Rattle.failure.specs.Outcome.{Answer}
 use Rattle.mem.specs.Opening.{opens}
 use Rattle.model.specs.declared.Unwinding.{Unwinding}
+use Rattle.model.specs.Search.{Searched, told}
 use Rattle.model.specs.Machine.{Machine, archOf, lentBy}
 use Rattle.model.specs.Expected.{due}
 use Rattle.model.specs.OtherStack.{withStack}
-use Rattle.model.specs.Demand.{Regular, answerOf, current, IsRefused, answers, EveryLanding}
+use Rattle.model.specs.Exactly.{Exactly}
+use Rattle.model.specs.Demand.{answerOf, current, IsRefused, answers}
 use Rattle.model.specs.LiveStack.{Usable}
 use Rattle.model.specs.Call.{nth, comparedAs, Thrown, AtThrow}
 use Rattle.model.proofs.Theorem.{demand3, demand3-live}
-use Rattle.model.proofs.Promised.{raise-throws, gives-next}
+use Rattle.model.proofs.Between.{demand3-between}
+use Rattle.model.proofs.Promised.{raise-throws, own-throw, gives-next}
 use Rattle.runs.specs.Scenario.{Scenario, events, reached, handedBack, irregular, Holds}
+use Rattle.runs.specs.Promises.{Promises, All}
 use Rattle.runs.specs.LiveStack.{Made, callOver, sameIn, HoldsOver, ThrowsOver, SpokenOf}
 use Rattle.runs.proofs.Runs.{irregular-refused, irregular-stays}
 use Rattle.runs.proofs.LiveStack.{allTrue, frames-tested}
 
 module _ (s : Scenario) (holds : Holds s) where
-  -- demand 3
-  pub applied : (exception : ℕ) → EveryLanding (Regular (reached s)) (reached s) (s .throw) exception
-  applied = demand3 (s .machine) (holds .fresh) (events (s .labelled)) (s .throw) (holds .allowed) (holds .sound)
-
-  -- demand 3 over a live stack
-  pub applied-live : (exception : ℕ) → EveryLanding (Usable (reached s)) (reached s) (s .throw) exception
-  applied-live = demand3-live (s .machine) (holds .fresh) (events (s .labelled)) (s .throw) (holds .allowed) (holds .sound)
-
   -- its throw is one that the contracts speak of
   abbrev pub thrown : Thrown
   thrown =
@@ -40,6 +36,17 @@ module _ (s : Scenario) (holds : Holds s) where
         throw = s .throw;
         allowed = holds .allowed;
         sound = holds .sound;
+      }
+
+  -- every form of demand 3 speaks of it, and so do the contracts
+  pub promises : Promises s
+  promises =
+      let es = events (s .labelled) in
+      record {
+        regular = demand3 (s .machine) (holds .fresh) es (s .throw) (holds .allowed) (holds .sound);
+        live = demand3-live (s .machine) (holds .fresh) es (s .throw) (holds .allowed) (holds .sound);
+        between = demand3-between (s .machine) (holds .fresh) es (s .throw) (holds .allowed) (holds .sound);
+        thrown = own-throw thrown;
       }
 
   -- also over another stack that has the live slots
@@ -64,7 +71,8 @@ module _ (s : Scenario) (holds : Holds s) where
   pub throws-over : (f : Made) → opens (lentBy (withStack (reached s) (f (reached s .stack)))) ≡ true →
       allTrue (sameIn (reached s .stack) (f (reached s .stack)) (reached s .frames)) ≡ true →
       ThrowsOver s f
-  throws-over f accepted same = raise-throws _ _ _ _ _ (at-throw f accepted same) ∙ ap Answer (holds .answered)
+  throws-over f accepted same =
+      raise-throws _ _ _ _ _ (at-throw f accepted same) ∙ ap (λ (o : Searched). Answer (told o)) (holds .answered)
 
   -- a call over such a stack, after a refused one and one that is usable, is one that the contract of `resume` speaks of
   abbrev pub second : (f g : Made) (fs : List Made) (same : List (List Bool)) → HoldsOver s (f ∷ g ∷ fs) same → SpokenOf s f g
@@ -93,3 +101,12 @@ module _ (s : Scenario) (holds : Holds s) where
       comparedAs (archOf (reached s)) (answerOf (callOver (reached s) (current u c) g))
       ≡ Answer (nth (length (answers (archOf (reached s)) (irregular (reached s) u ∷ c ∷ []))) (due (reached s) (s .throw)))
   second-gives f g fs same over exception = gives-next _ (second f g fs same over exception)
+
+-- what exactly its throw answers is a part of it
+pub exactly-shown : (s : Scenario) → Promises s → Exactly (reached s) (s .throw)
+exactly-shown s p = p .regular 0 .exactly
+
+-- of every scenario that holds
+pub all-promised : (ss : List Scenario) → All Holds ss → All Promises ss
+all-promised [] h = tt
+all-promised (s ∷ ss) h = (promises s (h .0), all-promised ss (h .1))

@@ -21,6 +21,7 @@ use Rattle.rows.specs.Row.{valid, checked}
 use Rattle.rows.specs.Handler.{entryAt, leftBreaks, rightBreaks, judged, handler}
 use Rattle.rows.specs.Handler2.{nextDelta, matched, handler2}
 use Rattle.rows.specs.Prefix.{rowsOf}
+use Rattle.rows.specs.NotRefused.{wellFormed, endingOf, answered}
 use Rattle.lookup.specs.Field.{word}
 use Rattle.lookup.specs.Header.{stride, chunkAt, faulty, headAt}
 use Rattle.lookup.specs.Record.{startAt, endAt, addressOf, handlersOf, recordAt, recordAt2, recordOf, holds, badRecord}
@@ -39,7 +40,7 @@ use Rattle.model.specs.Machine.{callerInterrupted, column, isRegister, value, i
 use Rattle.model.specs.Described.{layoutAt, samePairs, goodFp, fits, described}
 use Rattle.model.specs.Event.{pushes, calling, keptBy, newFrame, notSpNorPc, callAllowed, entered, spillAllowed, changeAllowed, reloadAllowed, writeAllowed}
 use Rattle.model.specs.Throw.{throwAllowed, rows1, rows2, rowsIn, rowOf}
-use Rattle.model.specs.Sound.{wholeTable, goodTable, goodFrame}
+use Rattle.model.specs.Sound.{wholeTable, goodTable, ending2, goodRow, goodFrame}
 use Rattle.model.specs.Expected.{padOf, outcome, due}
 use Rattle.model.specs.Demand.{answerOf, current, raisedBy, unwindingOf}
 use Rattle.model.specs.Between.{fitsIn}
@@ -79,7 +80,7 @@ words = tt
 
 -- row tables
 unfoldable pub rows : Names
-unfolding valid checked entryAt leftBreaks rightBreaks judged handler nextDelta matched handler2 rowsOf
+unfolding valid checked entryAt leftBreaks rightBreaks judged handler nextDelta matched handler2 rowsOf wellFormed endingOf answered
 rows = tt
 
 -- chunks and records, and whether they are sound
@@ -116,7 +117,7 @@ unfolding pushes calling keptBy newFrame callerInterrupted callAllowed entered s
 events = tt
 
 unfoldable pub throws : Names
-unfolding throwAllowed rows1 rows2 rowsIn rowOf wholeTable goodTable goodFrame
+unfolding throwAllowed rows1 rows2 rowsIn rowOf wholeTable goodTable ending2 goodRow goodFrame
 throws = tt
 
 -- what is due, and what the calls give

@@ -92,8 +92,7 @@ cut-scenarios = (
   throws-over X86.caught (x86-scenarios .0) (cut 0x8020 0x8090) refl refl,
 )
 
--- the contract of `resume` speaks of the second call after the first of each; the theorems are applied to every scenario that holds
--- (`applied`, `applied-live`)
+-- the contract of `resume` speaks of the second call after the first of each
 pub spoken-of : SpokenOf Aarch64.caught (overwritten 0x8000) (overwritten 0x8040) × SpokenOf X86.caught (cut 0x8020 0x8080) (cut 0x8050 0x8080)
 spoken-of = (
   second Aarch64.caught (aarch64-scenarios .0) (overwritten 0x8000) (overwritten 0x8040) _ _ (overwritten-scenarios .0),

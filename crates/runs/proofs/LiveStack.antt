@@ -17,7 +17,7 @@ use Rattle.arch.specs.Arch.{Arch}
 use Rattle.lookup.specs.Field.{word}
 use Rattle.frame.specs.Layout.{Pair}
 use Rattle.model.specs.declared.Unwinding.{Unwinding}
-use Rattle.model.specs.Unwinding.{frame0, raised}
+use Rattle.model.specs.Unwinding.{raised}
 use Rattle.model.specs.Machine.{Open, Machine, archOf, lentBy, address, inside, Store}
 use Rattle.model.specs.Expected.{Compared, firstOf}
 use Rattle.model.specs.OtherStack.{SameWord, SameSlots, SameLive, withStack}
@@ -137,7 +137,7 @@ over-says a m u (f ∷ fs) =
 
 -- the unwinding that the throw of a scenario hands back, if it answers so
 abbrev pub begun : Scenario → Machine → ℕ → Unwinding
-begun s m exception = raised (frame0 (m .registers) (s .throw .pc) (s .throw .interrupted)) exception (Answer (s .answer))
+begun s m exception = raised (m .registers) (s .throw .pc) (s .throw .interrupted) exception (Answer (s .answer))
 
 -- a scenario that holds, whose report is as expected, holds over such stacks
 pub over-reported : (s : Scenario) (stacks : List Made) (same : List (List Bool)) → Holds s → sameAt (reached s) stacks ≡ same →

@@ -3,13 +3,12 @@ use mathlib.Core.Bool.{true, false, not}
 use mathlib.Core.List.{List, [], _∷_}
 use mathlib.Core.Option.{Option, none, some}
 use mathlib.Core.Path.{_≡_, refl, _∙_, ap}
-use lib.Dec.{leb}
 use borrow.Author.Tests.{not-true}
 use Rattle.mem.proofs.Tests.{both}
 use Rattle.lookup.specs.Tables.{Entry, named}
 use Rattle.model.specs.Machine.{Open, Machine, recordsOf}
 use Rattle.model.specs.Event.{Event, Call, Spill, Change, Reload, Move, Write, call, spill, change, reload, move, step, steps}
-use Rattle.model.specs.Event.{callAllowed, spillAllowed, changeAllowed, reloadAllowed}
+use Rattle.model.specs.Event.{callAllowed, spillAllowed, changeAllowed, reloadAllowed, moveAllowed}
 use Rattle.runs.specs.Scenario.{allowedWith, innermost, within, Labelled, does, against, events, allowedOnly, labelsRight}
 
 -- one that is not leaves the machine as it was
@@ -36,7 +35,7 @@ against-leaves m (Reload reg) h = go (m .frames) h
     go (f ∷ fs) h = rw h
 against-leaves m (Move to) h = go (m .frames) h
   where
-    go : (fs : List Open) → innermost (λ f. leb to (f .cfa)) fs ≡ false → move m to fs ≡ m
+    go : (fs : List Open) → innermost (λ f. moveAllowed f to) fs ≡ false → move m to fs ≡ m
     go [] h = refl
     go (f ∷ fs) h = rw h
 against-leaves m (Write x v) h = rw h

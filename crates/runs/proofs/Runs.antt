@@ -19,7 +19,7 @@ use Rattle.lookup.proofs.Tested.{soundTest, sound-tested}
 use Rattle.model.specs.declared.Unwinding.{Unwinding}
 use Rattle.model.specs.Search.{Searched}
 use Rattle.model.specs.Cleanup.{Cleaned, Finished, clean}
-use Rattle.model.specs.Unwinding.{opened, frame0, raised, frameOf, choiceOf, resume}
+use Rattle.model.specs.Unwinding.{opened, raised, frameOf, choiceOf, resume}
 use Rattle.model.specs.Machine.{Tables, Machine, Fresh, archOf, lentBy}
 use Rattle.model.specs.Throw.{Throw, throwAllowed, framesAt}
 use Rattle.model.specs.Sound.{goodFrames, SoundTables}
@@ -27,10 +27,9 @@ use Rattle.model.specs.Expected.{LandingPad, Compared, outcome, due, firstOf}
 use Rattle.model.specs.Demand.{answerOf, callOf, Regular, currentBy, current, IsRefused, Admissible, unlessRefused, answers, raisedBy, unwindingOf}
 use Rattle.runs.specs.Scenario.{Scenario, reached, regulars, handedBack, irregular, mixed, answersAfter, callsFor, Holds}
 
--- regular sweep calls are a list that demand 3 speaks of
-pub regulars-admissible : (n : ℕ) (m : Machine) (u : Unwinding) → Admissible (Regular m) u (regulars n m u)
-regulars-admissible zero m u = tt
-regulars-admissible (suc n) m u = (inl refl, regulars-admissible n m (current u (callOf m u)))
+-- a call that is lent what the machine lends is regular
+pub own-regular : (m : Machine) → opens (lentBy m) ≡ true → (u : Unwinding) → Regular m u (callOf m u)
+own-regular m accepted u = record { stack = m .stack; is = refl; accepted = accepted; bytes = refl; base = inr refl }
 
 -- a call of architecture 3 is refused
 pub irregular-refused : (m : Machine) (u : Unwinding) → answerOf (irregular m u) ≡ Refused BadOpening
@@ -50,12 +49,12 @@ unfolding current
 irregular-stays m u = ap (currentBy u u) (irregular-refused m u)
 
 -- a list with such calls is one that demand 3 speaks of
-pub mixed-admissible : (n : ℕ) (m : Machine) (u : Unwinding) → Admissible (Regular m) u (mixed n m u)
-mixed-admissible zero m u = (inr (subst IsRefused (sym (irregular-refused m u)) tt), tt)
-mixed-admissible (suc n) m u = (
+pub mixed-admissible : (n : ℕ) (m : Machine) → opens (lentBy m) ≡ true → (u : Unwinding) → Admissible (Regular m) u (mixed n m u)
+mixed-admissible zero m accepted u = (inr (subst IsRefused (sym (irregular-refused m u)) tt), tt)
+mixed-admissible (suc n) m accepted u = (
   inr (subst IsRefused (sym (irregular-refused m u)) tt),
   subst (λ (v : Unwinding). Admissible (Regular m) v (callOf m u ∷ mixed n m (current u (callOf m u)))) (sym (irregular-stays m u))
-      (inl refl, mixed-admissible n m (current u (callOf m u))),
+      (inl (own-regular m accepted u), mixed-admissible n m accepted (current u (callOf m u))),
 )
 
 -- they change no answer
@@ -115,6 +114,7 @@ once-answers a (suc n) m u = ap (unlessRefused a (answerOf (callOf m u))) (once-
 -- all that computing shows of a scenario: of the machine that it reaches and the throw there, if that answers so and n sweep calls follow
 pub record Report : Type 0 where
   pub tables : Tables
+  pub accepted : Bool
   pub allowed : Bool
   pub frames : Bool
   pub answered : Searched
@@ -127,12 +127,13 @@ abbrev pub reportOf : Machine → Throw → Searched → ℕ → ℕ → Report
 reportOf m t answer n exception =
     record {
       tables = m .tables;
+      accepted = opens (lentBy m);
       allowed = throwAllowed m t;
       frames = goodFrames (m .tables) (framesAt m t);
       answered = outcome m t;
       lands = due m t;
       raises = raisedBy m t;
-      cleans = answersOnce (archOf m) n m (raised (frame0 (m .registers) (t .pc) (t .interrupted)) exception (Answer answer));
+      cleans = answersOnce (archOf m) n m (raised (m .registers) (t .pc) (t .interrupted) exception (Answer answer));
     }
 
 -- the report of a scenario
@@ -144,6 +145,7 @@ abbrev pub expected : Scenario → Report
 expected s =
     record {
       tables = s .machine .tables;
+      accepted = true;
       allowed = true;
       frames = true;
       answered = s .answer;
@@ -172,18 +174,19 @@ holds-reported s fresh tables e =
                 (sound-tested (s .machine .tables .section .bytes) (s .machine .tables .section .base) (s .machine .tables .arch) tables);
             frames = ap (λ (r : Report). r .frames) (e 0);
           };
+      accepted = ap (λ (r : Report). r .accepted) (e 0);
       answered = ap (λ (r : Report). r .answered) (e 0);
       lands = ap (λ (r : Report). r .lands) (e 0);
       raises = ap (λ (r : Report). r .raises) (e 0);
       cleans = answered;
       refuses = irregular-refused (reached s);
-      admissible = λ exception. mixed-admissible (callsFor s) (reached s) (handedBack s exception);
+      admissible = λ exception. mixed-admissible (callsFor s) (reached s) (ap (λ (r : Report). r .accepted) (e 0)) (handedBack s exception);
       cleansMixed = λ exception.
           mixed-same (archOf (s .machine)) (callsFor s) (reached s) (handedBack s exception) ∙ answered exception;
     }
   where
     begun : ℕ → Unwinding
-    begun exception = raised (frame0 (reached s .registers) (s .throw .pc) (s .throw .interrupted)) exception (Answer (s .answer))
+    begun exception = raised (reached s .registers) (s .throw .pc) (s .throw .interrupted) exception (Answer (s .answer))
 
     cleaned : (exception : ℕ) →
         answers (archOf (s .machine)) (regulars (callsFor s) (reached s) (begun exception)) ≡ firstOf (callsFor s) (s .landings)

@@ -10,6 +10,7 @@ use Rattle.mem.specs.Memory.{Region, Lent}
 use Rattle.lookup.specs.Field.{word}
 use Rattle.frame.specs.Layout.{Pair}
 use Rattle.model.specs.declared.Unwinding.{Unwinding}
+use Rattle.model.specs.Search.{told, toldBy}
 use Rattle.model.specs.Unwinding.{raise}
 use Rattle.model.specs.Machine.{Open, Machine, archOf, lentBy, address, inside, Store, stored}
 use Rattle.model.specs.Expected.{firstOf}
@@ -92,9 +93,10 @@ pub record HoldsBetween (s : Scenario) (wss : List (List Store)) (stacks : List 
 -- a scenario's throw is answered over another stack that has the live slots
 abbrev pub ThrowsOver : Scenario → Made → Type 0
 ThrowsOver s f =
-    raise (lentBy (withStack (reached s) (f (reached s .stack)))) (reached s .tables .arch) (reached s .registers) (s .throw .pc)
-    (s .throw .interrupted)
-    ≡ Answer (s .answer)
+    toldBy
+    (raise (lentBy (withStack (reached s) (f (reached s .stack)))) (reached s .tables .arch) (reached s .registers) (s .throw .pc)
+    (s .throw .interrupted))
+    ≡ Answer (told (s .answer))
 
 -- the second sweep call, over these two stacks and after a refused call, is one that the contract of `resume` speaks of
 abbrev pub SpokenOf : Scenario → Made → Made → Type 0

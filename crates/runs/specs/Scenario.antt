@@ -4,16 +4,16 @@ use mathlib.Core.List.{List, [], _∷_}
 use mathlib.Core.Option.{Option, none, some}
 use mathlib.Core.Path.{_≡_}
 use Prim.Native.Nat.{ℕ, zero, suc, _+_}
-use lib.Dec.{leb}
 use lib.ListN.{length}
 use Rattle.failure.specs.Outcome.{Refused, Answer}
 use Rattle.failure.specs.Failure.{BadOpening}
+use Rattle.mem.specs.Opening.{opens}
 use Rattle.lookup.specs.Tables.{Entry, named}
 use Rattle.model.specs.declared.Unwinding.{Unwinding}
 use Rattle.model.specs.Search.{Searched}
 use Rattle.model.specs.Machine.{Open, Machine, Fresh, archOf, recordsOf, lentBy}
 use Rattle.model.specs.Event.{Event, Call, Spill, Change, Reload, Move, Write, step, steps}
-use Rattle.model.specs.Event.{callAllowed, spillAllowed, changeAllowed, reloadAllowed, writeAllowed}
+use Rattle.model.specs.Event.{callAllowed, spillAllowed, changeAllowed, reloadAllowed, moveAllowed, writeAllowed}
 use Rattle.model.specs.Throw.{Throw, throwAllowed}
 use Rattle.model.specs.Sound.{Sound}
 use Rattle.model.specs.Expected.{LandingPad, Compared, outcome, due, firstOf}
@@ -35,7 +35,7 @@ within m (Call chunk index ret) = allowedWith (λ e. callAllowed m e ret) (named
 within m (Spill reg slot) = innermost (λ f. spillAllowed m f reg slot) (m .frames)
 within m (Change reg v) = innermost (λ f. changeAllowed m f reg v) (m .frames)
 within m (Reload reg) = innermost (λ f. reloadAllowed f reg) (m .frames)
-within m (Move to) = innermost (λ f. leb to (f .cfa)) (m .frames)
+within m (Move to) = innermost (λ f. moveAllowed f to) (m .frames)
 within m (Write x v) = writeAllowed m x v
 
 -- an event with a label: one within the rules, or one against them
@@ -120,6 +120,8 @@ pub record Holds (s : Scenario) : Type 0 where
   pub fresh : Fresh (s .machine)
   pub allowed : throwAllowed (reached s) (s .throw) ≡ true
   pub sound : Sound (reached s) (s .throw)
+  -- what the machine lends at the throw is accepted, as at the start
+  pub accepted : opens (lentBy (reached s)) ≡ true
   -- its answer and its landings are the due ones
   pub answered : outcome (reached s) (s .throw) ≡ s .answer
   pub lands : due (reached s) (s .throw) ≡ s .landings

@@ -81,11 +81,11 @@ attempts =
 -- what they come to
 abbrev pub found : List Finding
 found =
-    record { accepted = true; same = false ∷ true ∷ true ∷ true ∷ true ∷ []; answer = Refused 22; due = Installed ofFramed } ∷
-    record { accepted = true; same = false ∷ true ∷ true ∷ true ∷ true ∷ []; answer = Refused 22; due = Installed ofFramed } ∷
-    record { accepted = true; same = false ∷ false ∷ false ∷ false ∷ false ∷ []; answer = Refused 22; due = Installed ofFramed } ∷
-    record { accepted = true; same = true ∷ true ∷ true ∷ true ∷ true ∷ []; answer = Answer (Installed ofFramed); due = Installed ofOld } ∷
-    record { accepted = true; same = true ∷ true ∷ true ∷ false ∷ false ∷ []; answer = Refused 27; due = Installed ofOuter } ∷
+    record { accepted = true; same = false ∷ true ∷ true ∷ true ∷ true ∷ []; answer = Refused 22; due = Installed 7 ofFramed } ∷
+    record { accepted = true; same = false ∷ true ∷ true ∷ true ∷ true ∷ []; answer = Refused 22; due = Installed 7 ofFramed } ∷
+    record { accepted = true; same = false ∷ false ∷ false ∷ false ∷ false ∷ []; answer = Refused 22; due = Installed 7 ofFramed } ∷
+    record { accepted = true; same = true ∷ true ∷ true ∷ true ∷ true ∷ []; answer = Answer (Installed 7 ofFramed); due = Installed 7 ofOld } ∷
+    record { accepted = true; same = true ∷ true ∷ true ∷ false ∷ false ∷ []; answer = Refused 27; due = Installed 7 ofOuter } ∷
     record { accepted = false; same = false ∷ false ∷ false ∷ false ∷ false ∷ []; answer = Refused 28; due = Finished } ∷ []
 
 -- the same machine with a stack that begins at its lowest live slot, which is the slot of 15 in `plain`
@@ -118,6 +118,6 @@ foundLow =
     record {
       accepted = true;
       same = false ∷ true ∷ true ∷ true ∷ true ∷ [];
-      answer = Answer (Installed (landing 1 0x8030 0x4070 (203 ∷ 0x8040 ∷ 112 ∷ 113 ∷ 114 ∷ 7 ∷ [])));
-      due = Installed ofFramed;
+      answer = Answer (Installed 7 (landing 1 0x8030 0x4070 (203 ∷ 0x8040 ∷ 112 ∷ 113 ∷ 114 ∷ 7 ∷ [])));
+      due = Installed 7 ofFramed;
     } ∷ []

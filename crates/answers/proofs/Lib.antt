@@ -1,1 +1,2 @@
--- The proofs of the answers, which need no laws of their own.
+-- Laws of the answers.
+pub mod Memory

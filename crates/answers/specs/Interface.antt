@@ -5,18 +5,16 @@ use mathlib.Core.Bool.{Bool, true, false}
 use mathlib.Core.Option.{Option, none, some}
 use Prim.Native.Nat.{ℕ}
 use Rattle.failure.specs.Outcome.{Outcome, Refused, Answer}
-use Rattle.failure.specs.Failure.{BadEkoRecord, BadOpening}
 use Rattle.arch.specs.declared.Regs.{Regs}
 use Rattle.arch.specs.declared.Next as arch
 use Rattle.arch.specs.declared.Status as arch-status
 use Rattle.arch.specs.declared.Status.the-variants as arch-case
 use Rattle.state.specs.declared.Next as state
-use Rattle.state.specs.declared.Status as state-status
-use Rattle.state.specs.declared.Status.the-variants as state-case
+use Rattle.state.specs.declared.State.{State}
+use Rattle.state.specs.Answers as StateAnswers
 use Rattle.program.specs.declared.Ended as program
 use Rattle.program.specs.declared.Status as program-status
 use Rattle.program.specs.declared.Status.the-variants as program-case
-use Rattle.personality.specs.Reason.{installContext, fatalPhase2}
 use Rattle.personality.specs.declared.Decided as personality
 use Rattle.personality.specs.declared.Code.{Code}
 use Rattle.personality.specs.declared.Code.the-variants as code
@@ -37,7 +35,10 @@ use Rattle.unwind.specs.declared.Raised as unwind-raise
 use Rattle.unwind.specs.declared.ResumeAnswer.{ResumeAnswer}
 use Rattle.unwind.specs.declared.ResumeAnswer.the-variants as resume
 use Rattle.unwind.specs.declared.Resumed as unwind-resume
+use Rattle.unwind.specs.Answers.{cleaned}
 use Rattle.model.specs.Search as search-phase
+use Rattle.model.specs.Cleanup as cleanup-phase
+use Rattle.model.specs.Cleanup.{Cleaned}
 use Rattle.leb.specs.Reader as Reader
 use Rattle.rows.specs.Row as Row
 use Rattle.rows.specs.Row.{Pad}
@@ -87,16 +88,14 @@ abbrev pub read : Outcome Reader.Read → Read
 read (Refused n) = record { status = n; value = 0; next = 0 }
 read (Answer x) = record { status = 0; value = x .value; next = x .next }
 
--- the status of a state that is handed back: a 33rd register is 18 as the other faults of a save are
-abbrev pub changeStatus : state-status.Status → ℕ
-changeStatus state-case.Done = 0
-changeStatus state-case.OutOfRange = BadEkoRecord
-changeStatus state-case.Full = BadEkoRecord
-changeStatus state-case.BadOpening = BadOpening
+-- the status of a state that is handed back: the number that its change comes to
+abbrev pub changeStatus : Outcome State → ℕ
+changeStatus (Refused n) = n
+changeStatus (Answer st) = 0
 
 -- a state
 abbrev pub changed : state.Next → Changed
-changed n = record { status = changeStatus (n .status); state = n .state }
+changed n = record { status = changeStatus (StateAnswers.told n); state = n .state }
 
 -- the slot of a register
 abbrev pub slot : Outcome (Option ℕ) → Number
@@ -179,12 +178,10 @@ resumeStatus resume.Fatal = 0
 resumeStatus resume.Finished = 1
 resumeStatus (resume.Refused n) = n
 
--- its reason: 7 for a landing, 2 for a terminate row, else 0
-abbrev pub resumeReason : ResumeAnswer → ℕ
-resumeReason (resume.Install number) = installContext
-resumeReason resume.Fatal = fatalPhase2
-resumeReason resume.Finished = 0
-resumeReason (resume.Refused n) = 0
+-- its reason: document 01's number for what it comes to, 7 or 2; 0 where it has none
+abbrev pub resumeReason : Outcome Cleaned → ℕ
+resumeReason (Refused n) = 0
+resumeReason (Answer x) = cleanup-phase.reasonOf x
 
 -- the frame number of a landing, else 0
 abbrev pub resumeNumber : ResumeAnswer → ℕ
@@ -198,7 +195,7 @@ abbrev pub resumed : unwind-resume.Resumed → Resumed
 resumed r =
     record {
       status = resumeStatus (r .answer);
-      reason = resumeReason (r .answer);
+      reason = resumeReason (cleaned r);
       number = resumeNumber (r .answer);
       regs = r .regs;
       unwinding = r .unwinding;

@@ -1,11 +1,16 @@
 // The answers as the C interface hands them over: `#[repr(C)]` structs, and what each answer of the crates below becomes as one.
 // The status of an answer is 0 where it has values, 1 for none, else document 01's number.
+ghost use mathlib.Core.List.{List};
 ghost use mathlib.Core.Path.{_≡_};
+ghost use Prim.Native.Nat.{ℕ};
 ghost use Rattle.arch.specs.Answers as ArchAnswers;
 ghost use Rattle.lookup.specs.Lookup.{looked};
 ghost use Rattle.leb.specs.Reader as Reader;
 ghost use Rattle.state.specs.Answers as StateAnswers;
+ghost use Rattle.state.specs.Answers.{toldBy};
 ghost use Rattle.rows.specs.Row.{found};
+ghost use Rattle.model.specs.FrameStep.{Frame};
+ghost use Rattle.unwind.specs.Answers.{cleanedAs};
 ghost use Rattle.answers.specs.Interface as Interface;
 use arch::Regs;
 use failure::BAD_EKO_HEADER;
@@ -29,6 +34,8 @@ use unwind::RaiseAnswer;
 use unwind::ResumeAnswer;
 use unwind::WalkAnswer;
 use unwind::Walked;
+
+pub mod layout;
 
 // The status of an answer with values, and of none.
 pub const ANSWERED: u32 = 0;
@@ -119,7 +126,7 @@ pub struct Batch {
     pub status: u32,
 }
 
-// A throw: the reason 6 with the chosen frame's number and sp, 3 or 5; and the unwinding at frame 0.
+// A throw: the reason 6 with the chosen frame's number and sp, 3 or 5; and the unwinding at frame 0, for a refusal with the file that came in.
 #[repr(C)]
 pub struct Raised {
     pub unwinding: Unwinding,
@@ -233,7 +240,7 @@ pub fn to_read(n: leb::Number) -> Read
 
 // The status of a state.
 fn change_status(s: state::Status) -> u32
-    ensures { λ r. ⌜ r ≡ Interface.changeStatus s ⌝ }
+    ensures { λ r. ⌜ ((st : State) → r ≡ Interface.changeStatus (toldBy s st)) ⌝ }
 {
     match s {
         state::Status::Done => ANSWERED,
@@ -470,7 +477,7 @@ fn resume_status(answer: ResumeAnswer) -> u32
 
 // Its reason.
 fn resume_reason(answer: ResumeAnswer) -> u32
-    ensures { λ r. ⌜ r ≡ Interface.resumeReason answer ⌝ }
+    ensures { λ r. ⌜ ((file : List ℕ) (next : Frame) → r ≡ Interface.resumeReason (cleanedAs answer file next)) ⌝ }
 {
     match answer {
         ResumeAnswer::Install(_) => URC_INSTALL_CONTEXT,

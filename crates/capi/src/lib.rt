@@ -23,6 +23,7 @@ ghost use Rattle.unwind.specs.Answers as UnwindAnswers;
 ghost use Rattle.unwind.specs.Answers.{frameAt};
 ghost use Rattle.unwind.specs.Batches as Batches;
 ghost use Rattle.answers.specs.Interface as Interface;
+ghost use Rattle.answers.specs.Offsets as Offsets;
 use answers::Batch;
 use answers::Changed;
 use answers::Decided;
@@ -35,6 +36,8 @@ use answers::Read;
 use answers::Resumed;
 use answers::RowFound;
 use answers::Stepped;
+use answers::layout::Layout;
+use answers::layout::layout_told;
 use answers::to_batch;
 use answers::to_changed;
 use answers::to_decided;
@@ -220,7 +223,7 @@ pub extern "C" fn eko_apply<'a>(
         (Frame.apply (lent (now (section .entry)) «section_base» (now (stack .entry)) «stack_base») arch state (regs .r)))
         ⌝ }
 {
-    to_file(frame::apply(section, section_base, stack, stack_base, arch, state, regs))
+    to_file(frame::apply::apply(section, section_base, stack, stack_base, arch, state, regs))
 }
 
 // The caller's registers from a version 1 frame word.
@@ -240,7 +243,7 @@ pub extern "C" fn eko_step<'a>(
         (Frame.step (lent (now (section .entry)) «section_base» (now (stack .entry)) «stack_base») arch frame first (regs .r)))
         ⌝ }
 {
-    to_file(frame::step(
+    to_file(frame::step::step(
         section,
         section_base,
         stack,
@@ -341,7 +344,7 @@ pub extern "C" fn eko_next_frame<'a>(
         arch (frameAt number interrupted regs)))
         ⌝ }
 {
-    to_stepped(unwind::next_frame(
+    to_stepped(unwind::walk::next_frame(
         section,
         section_base,
         stack,
@@ -371,7 +374,7 @@ pub extern "C" fn eko_walk<'a>(
         (frameAt number interrupted regs)))
         ⌝ }
 {
-    to_batch(unwind::walk(
+    to_batch(unwind::walk::walk(
         section,
         section_base,
         stack,
@@ -397,12 +400,12 @@ pub extern "C" fn eko_raise<'a>(
     exception: usize,
 ) -> Raised
     ensures { λ r. ⌜
-        r ≡ Interface.raised (UnwindAnswers.raisedBy (Spec.frame0 (regs .r) pc interrupted) exception
+        r ≡ Interface.raised (UnwindAnswers.raisedBy (regs .r) pc interrupted exception
         (Spec.raise (lent (now (section .entry)) «section_base» (now (stack .entry)) «stack_base»)
         arch (regs .r) pc interrupted))
         ⌝ }
 {
-    to_raised(unwind::raise(
+    to_raised(unwind::search::raise(
         section,
         section_base,
         stack,
@@ -432,5 +435,13 @@ pub extern "C" fn eko_resume<'a>(
         arch unwinding))
         ⌝ }
 {
-    to_resumed(unwind::resume(section, section_base, stack, stack_base, arch, unwinding))
+    to_resumed(unwind::cleanup::resume(section, section_base, stack, stack_base, arch, unwinding))
+}
+
+// How the structs of this interface stand in memory.
+#[no_mangle]
+pub extern "C" fn eko_layout(flag: bool) -> Layout
+    ensures { λ r. ⌜ r ≡ Offsets.layout flag ⌝ }
+{
+    layout_told(flag)
 }

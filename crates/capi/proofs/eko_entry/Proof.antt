@@ -12,7 +12,7 @@ to-changed-requires : tie.Need-to-changed-requires
 to-changed-requires c κs = search needs
 
 returns : tie.Need-returns
-returns c = c .to-changed .ensures ∙ ap changed (c .before .entry .ensures)
+returns c = c .to-changed .ensures ∙ ap changed (c .before .entry .ensures .0)
 
 pub eko-entry-spec : {M : Type 1} → statement M
 eko-entry-spec = tie.close (tie.spec entry-requires to-changed-requires returns)

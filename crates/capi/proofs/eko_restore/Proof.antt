@@ -12,7 +12,7 @@ to-changed-requires : tie.Need-to-changed-requires
 to-changed-requires c κs = search needs
 
 returns : tie.Need-returns
-returns c = c .to-changed .ensures ∙ ap changed (c .before .restore .ensures)
+returns c = c .to-changed .ensures ∙ ap changed (c .before .restore .ensures .0)
 
 pub eko-restore-spec : {M : Type 1} → statement M
 eko-restore-spec = tie.close (tie.spec restore-requires to-changed-requires returns)

@@ -12,7 +12,7 @@ to-changed-requires : tie.Need-to-changed-requires
 to-changed-requires c κs = search needs
 
 returns : tie.Need-returns
-returns c = c .to-changed .ensures ∙ ap changed (c .before .save .ensures)
+returns c = c .to-changed .ensures ∙ ap changed (c .before .save .ensures .0)
 
 pub eko-save-spec : {M : Type 1} → statement M
 eko-save-spec = tie.close (tie.spec save-requires to-changed-requires returns)

@@ -13,6 +13,7 @@ mod random;
 mod registers;
 mod sample;
 mod short;
+mod sizes;
 mod step;
 mod uleb;
 
@@ -48,9 +49,9 @@ fn requests(module: &str, arch: &str, seed: &str) -> Option<Vec<String>> {
     let random = &mut Random::new(SEED ^ arch ^ (u64::from(seed) << 2));
     match module {
         "foundation" => Some(foundation(arch, random)),
-        "lookup" => Some(lookup::requests(arch, random)),
+        "lookup" => Some(lookups(arch, random)),
         "frame" => Some(frame(arch, random)),
-        "program" => Some(program::requests(random)),
+        "program" => Some(program::requests(arch, random)),
         "rows" => Some(rows(arch, random)),
         "short" => Some(short::requests(arch)),
         "lengths" => Some(large::lengths(arch, random)),
@@ -63,13 +64,21 @@ fn requests(module: &str, arch: &str, seed: &str) -> Option<Vec<String>> {
 
 fn foundation(arch: u64, random: &mut Random) -> Vec<String> {
     let mut list = uleb::requests(random);
+    sizes::numbers(&mut list);
     list.extend(registers::requests(arch, random));
+    list
+}
+
+fn lookups(arch: u64, random: &mut Random) -> Vec<String> {
+    let mut list = lookup::requests(arch, random);
+    sizes::lookups(&mut list, arch);
     list
 }
 
 fn frame(arch: u64, random: &mut Random) -> Vec<String> {
     let mut list = apply::requests(arch, random);
     list.extend(step::requests(arch, random));
+    sizes::slots(&mut list, arch);
     list
 }
 
@@ -77,5 +86,8 @@ fn rows(arch: u64, random: &mut Random) -> Vec<String> {
     let mut list = handler::requests(random);
     list.extend(handler2::requests(random));
     list.extend(personality::requests(arch, random));
+    sizes::tables(&mut list, arch);
+    sizes::tables2(&mut list, arch);
+    sizes::reasons(&mut list, arch);
     list
 }

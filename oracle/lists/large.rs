@@ -1,12 +1,14 @@
 //! Requests for comparisons at large, four kinds of them for every function that reads memory.
 
 use crate::file::File;
+use crate::lookup;
 use crate::memory::{NONE, TOP, request};
 use crate::program::state;
 use crate::random::Random;
-use crate::sample::functions;
+use crate::sample::{LARGE, functions};
 
-/// Samples of every size, with memory of every length about their ends; states and registers of every size.
+/// Samples of every size, with memory of every length about their ends; some of large sizes; many records; states and registers
+/// of every size.
 pub fn lengths(arch: u64, random: &mut Random) -> Vec<String> {
     let mut list = Vec::new();
     for (make, largest) in functions(arch) {
@@ -23,9 +25,27 @@ pub fn lengths(arch: u64, random: &mut Random) -> Vec<String> {
             }
         }
     }
+    larger(&mut list, arch, random);
+    lookup::many(&mut list, arch, random);
     states(&mut list, random);
     registers(&mut list, arch, random);
     list
+}
+
+/// Samples of large sizes, whole and without their last byte.
+fn larger(list: &mut Vec<String>, arch: u64, random: &mut Random) {
+    for (make, sizes) in LARGE {
+        for size in sizes {
+            for _ in 0..if *size < 2000 { 4 } else { 1 } {
+                let mut sample = make(arch, *size, random);
+                let limit = sample.end();
+                list.push(sample.whole(limit, random));
+                sample.bytes.pop();
+                list.push(sample.whole(limit, random));
+                list.push(sample.whole(limit - 1, random));
+            }
+        }
+    }
 }
 
 /// Saves, restores and slots of states of every count.

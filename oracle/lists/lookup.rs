@@ -308,6 +308,35 @@ fn random_section(arch: u64, random: &mut Random) -> (u64, Vec<u8>, u64) {
     (base, section(base, &chunks), random.pick(&pcs))
 }
 
+/// Chunks of 5 to 40 records of either version, alone or after another chunk, most of them in order; a pc at edges of some records.
+pub fn many(list: &mut Vec<String>, arch: u64, random: &mut Random) {
+    for (count, version) in (5..=40).flat_map(|count| [(count, 1), (count, 2)]) {
+        let base = random.pick(&[1, SECTION, SECTION + 4, TOP - 8]);
+        let (mut rows, mut at) = (Vec::new(), base + 0x1_0000);
+        for _ in 0..count {
+            let len = random.pick(&[1, 4, 8, 16]);
+            rows.push(row(at, len, random.below(96) as u32 | random.pick(&[0, 0, 1 << 31])));
+            at += u64::from(len) + random.pick(&[0, 0, 4]);
+        }
+        let broken = random.below(4 * count) as usize;
+        if let Some(row) = rows.get_mut(broken) {
+            row.len += random.below(24) as u32;
+        }
+        let before = Chunk { arch, version: 3 - version, rows: vec![row(base + 0x8000, 8, 20)], rest: 8 };
+        let chunk = Chunk { arch, version, rows: rows.clone(), rest: random.pick(&[0, 4, 64]) };
+        let alone = random.below(2) == 0;
+        let chunks = if alone { vec![(0, chunk)] } else { vec![(4, before), (0, chunk)] };
+        let bytes = section(base, &chunks);
+        for _ in 0..8 {
+            let at = random.pick(&rows);
+            let end = at.start + u64::from(at.len);
+            for pc in [at.start - 1, at.start, end - 1, end] {
+                lookup(list, (base, &bytes), NONE, pc);
+            }
+        }
+    }
+}
+
 fn random_case(list: &mut Vec<String>, arch: u64, random: &mut Random) {
     let (base, bytes, pc) = random_section(arch, random);
     for pc in [pc, pc.wrapping_sub(1)] {

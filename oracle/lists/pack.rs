@@ -15,6 +15,10 @@ const OUTSIDE: u64 = 27;
 /// The status that stands for `none`: no record, no row or no slot, and no refusal.
 const NONE: u64 = 0xff;
 
+/// The numbers of a line and the bytes of a range that `replay` has room for.
+const NUMBERS: usize = 8192;
+const BYTES: usize = 6144;
+
 /// A request and its answer, cut into tokens.
 struct Case<'a> {
     arch: u64,
@@ -59,8 +63,8 @@ fn pack(arch: u64, request: &str, answer: &str) -> Option<String> {
     let name = tokens.next()?;
     let answer = answer.split_ascii_whitespace().collect();
     let (op, rest) = layout(name, &Case { arch, memory, args: tokens.collect(), answer })?;
-    let numbers = [op, arch].into_iter().chain(rest);
-    Some(numbers.map(|n| format!("{n:x}")).collect::<Vec<_>>().join(" "))
+    let numbers: Vec<String> = [op, arch].into_iter().chain(rest).map(|n| format!("{n:x}")).collect();
+    (numbers.len() <= NUMBERS).then(|| numbers.join(" "))
 }
 
 /// The operation's number and what follows the architecture. A new operation adds its line here.
@@ -303,7 +307,7 @@ fn personality(case: &Case) -> Packed {
 fn memory(case: &Case) -> Packed {
     let mut out = Vec::new();
     for range in case.memory.chunks(2) {
-        let bytes = bytes(range[1])?;
+        let bytes = bytes(range[1]).filter(|bytes| bytes.len() <= BYTES)?;
         out.extend([number(range[0])?, bytes.len() as u64]);
         out.extend(bytes.into_iter().map(u64::from));
     }

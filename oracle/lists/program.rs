@@ -2,6 +2,7 @@
 
 use crate::memory::{NONE, Range, TOP, request};
 use crate::random::Random;
+use crate::sizes;
 
 const SECTION: u64 = 0x1000;
 const STACK: u64 = 0x2000;
@@ -31,7 +32,7 @@ const NUMBERS: [&[u8]; 16] = [
     &[0x80, 0x80, 0x80, 0x80, 0x80],
 ];
 
-pub fn requests(random: &mut Random) -> Vec<String> {
+pub fn requests(arch: u64, random: &mut Random) -> Vec<String> {
     let mut list = Vec::new();
     every_byte(&mut list);
     numbers(&mut list);
@@ -46,6 +47,8 @@ pub fn requests(random: &mut Random) -> Vec<String> {
         list.push(random_run(random));
     }
     saved_states(&mut list, random);
+    sizes::programs(&mut list, arch);
+    sizes::full_states(&mut list, arch);
     list
 }
 
@@ -272,6 +275,31 @@ pub fn operation(random: &mut Random, program: &mut Vec<u8>) {
         11 => program.push(0xc9 + random.below(2) as u8),
         12 => program.push(0xe0 + (reg % 32) as u8),
         _ => program.push(if random.below(6) == 0 { random.below(256) as u8 } else { 0x02 }),
+    }
+}
+
+/// So many operations of which none is refused.
+pub fn accepted(size: u64, random: &mut Random, program: &mut Vec<u8>) {
+    let mut depth = 0;
+    for _ in 0..size {
+        let reg = random.pick(&[0, 3, 6, 12, 16, 29, 30, 31, 63]);
+        match random.below(9) {
+            0 => program.push(1 + random.below(63) as u8),
+            1 => program.push(0x40 + random.below(64) as u8),
+            2 => program.extend([0x80 + reg, 1 + random.below(127) as u8]),
+            3 => program.extend([&[0xc4, reg][..], &uleb(1 + random.below(65535))].concat()),
+            4 => program.extend([&[0xc0 + random.below(4) as u8][..], &uleb(random.any_width() >> 32)].concat()),
+            5 => program.push(0xe0 + reg % 32),
+            6 if depth < 4 => {
+                program.push(0xc7);
+                depth += 1;
+            }
+            7 if depth > 0 => {
+                program.push(0xc8);
+                depth -= 1;
+            }
+            _ => program.push(random.pick(&[0xc6, 0xc9, 0xca])),
+        }
     }
 }
 

@@ -53,11 +53,12 @@ impl Sample {
 pub type Make = fn(u64, u64, &mut Random) -> Sample;
 
 /// Every function that reads memory, with the largest size of its samples.
-pub fn functions(arch: u64) -> [(Make, u64); 9] {
+pub fn functions(arch: u64) -> [(Make, u64); 10] {
     [
         (uleb, 7),
-        (lookup, 20),
+        (lookup, 40),
         (run, 40),
+        (run_full, 33),
         (apply, 32),
         (step, step::table(arch)),
         (handler, 20),
@@ -66,6 +67,18 @@ pub fn functions(arch: u64) -> [(Make, u64); 9] {
         (personality2, 20),
     ]
 }
+
+/// The functions that go through many of something, with large sizes of their samples.
+pub const LARGE: [(Make, &[u64]); 8] = [
+    (lookup, &[41, 100, 300, 1100, 5000]),
+    (run, &[64, 65, 66, 128, 300, 1001, 1100, 5000, 70_000]),
+    (deep_apply, &[64, 65, 66, 130, 1000, 65535]),
+    (deep_step, &[64, 65, 66, 130, 2047]),
+    (handler, &[255, 256, 257, 300, 1100, 5000]),
+    (handler2, &[100, 101, 128, 300, 1001, 1100, 5000, 70_000]),
+    (personality, &[256, 1100]),
+    (personality2, &[130, 300, 2100, 9000]),
+];
 
 fn base(random: &mut Random) -> u64 {
     random.pick(&[1, 0x1000, 0x1003, TOP - 0x400])
@@ -112,13 +125,41 @@ fn lookup(arch: u64, size: u64, random: &mut Random) -> Sample {
     Sample::new(base, lookup::section(base, &chunks), move |_| format!("lookup {pc}"))
 }
 
+/// Any operations; so many that one of them would surely be refused are such as are not.
 fn operations(size: u64, random: &mut Random) -> Vec<u8> {
     let mut bytes = Vec::new();
-    for _ in 0..size {
-        program::operation(random, &mut bytes);
+    if size > 40 {
+        program::accepted(size, random, &mut bytes);
+    } else {
+        (0..size).for_each(|_| program::operation(random, &mut bytes));
     }
     bytes.push(0x00);
     bytes
+}
+
+/// So many saves, or about as many as a state holds, then operations that save or restore.
+fn run_full(arch: u64, size: u64, random: &mut Random) -> Sample {
+    let base = base(random);
+    let saves = random.pick(&[size, 30 + size % 4]);
+    let mut registers: Vec<u8> = (0..64).collect();
+    let mut bytes = Vec::new();
+    for _ in 0..saves {
+        let reg = registers.remove(random.below(registers.len() as u64) as usize);
+        bytes.extend([0x80 + reg, 1 + random.below(127) as u8]);
+    }
+    let (fp, ra) = if arch == 1 { (29, 30) } else { (6, 16) };
+    for _ in 0..random.below(5) {
+        let some = random.below(64) as u8;
+        match random.below(7) {
+            0 | 1 => bytes.push(0xc9),
+            2 | 3 => bytes.push(0xca),
+            4 => bytes.push(0xe0 + random.pick(&[fp, ra, some % 32])),
+            5 => bytes.push(random.pick(&[0xc7, 0xc8])),
+            _ => bytes.extend([0x80 + random.pick(&[fp, ra, some]), 0x05]),
+        }
+    }
+    bytes.push(0x00);
+    Sample::new(base, bytes, move |limit| format!("run {base} {limit} {MAX}"))
 }
 
 fn run(_: u64, size: u64, random: &mut Random) -> Sample {
@@ -148,6 +189,30 @@ fn apply(arch: u64, size: u64, random: &mut Random) -> Sample {
     let file = File::random(arch, random).sp(from).fp(from).token();
     let fp = random.below(2);
     Sample::new(base, bytes, move |_| format!("apply {fp} {units} {size} {pairs} {file}"))
+}
+
+/// A state with a pair at so deep a slot, and others at or above it; the stack ends at the CFA.
+fn deep_apply(arch: u64, size: u64, random: &mut Random) -> Sample {
+    let base = stack_base(random);
+    let bytes = words(size, random);
+    let units = random.below(4);
+    let from = near(base.wrapping_add(8 * (size - units)), random);
+    let other = 1 + random.below(size);
+    let [first, second, ra] = [random.pick(apply::saved(arch)), random.pick(apply::saved(arch)), apply::ra(arch)];
+    let file = File::random(arch, random).sp(from).fp(from).token();
+    let fp = random.below(2);
+    Sample::new(base, bytes, move |_| format!("apply {fp} {units} 3 {first}:{size},{second}:{other},{ra}:1 {file}"))
+}
+
+/// A frame word of kind 1 whose slots go from so deep a one on; the stack has them all, or not the last.
+fn deep_step(arch: u64, size: u64, random: &mut Random) -> Sample {
+    let base = stack_base(random);
+    let mask = random.below(1 << step::table(arch));
+    let bytes = words(size + u64::from(mask.count_ones()) - random.below(2), random);
+    let fp = near(base + bytes.len() as u64 - 16, random);
+    let frame = step::word(1, random.below(2), mask, size);
+    let file = File::random(arch, random).fp(fp).token();
+    Sample::new(base, bytes, move |_| format!("step {frame} 0 {file}"))
 }
 
 /// A frame word with so many registers, whose slots end at the stack's end.
@@ -189,13 +254,19 @@ fn handler(_: u64, size: u64, random: &mut Random) -> Sample {
 fn table2(size: u64, random: &mut Random) -> (Vec<u8>, u64) {
     let (mut at, mut rows, mut offsets) = (0, Vec::new(), vec![0]);
     for _ in 0..size {
-        let delta = if random.below(32) == 0 { 0 } else { random.pick(&[1, 1, 2, 3, 5, 130, 70_000]) };
+        let (some, wide) = (random.pick(&[1, 1, 2, 3, 5, 130, 70_000]), random.below(1 << 32));
+        let delta = match random.below(size.max(32)) {
+            0 => 0,
+            1 => wide,
+            _ => some,
+        };
         at += delta;
         offsets.push(at);
         let word = random.below(400);
         rows.push((delta, random.pick(&[2, 4, 5, word])));
     }
-    (handler2::table(&rows), random.pick(&offsets) + random.pick(&[0, 0, 0, 1]))
+    let ret = random.pick(&offsets) + random.pick(&[0, 0, 0, 1]);
+    (handler2::table(&rows), ret % (1 << 32))
 }
 
 fn handler2(_: u64, size: u64, random: &mut Random) -> Sample {

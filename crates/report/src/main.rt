@@ -9,7 +9,10 @@ use arch::Value;
 use arch::X86_64;
 use libc::STDIN_FILENO;
 use libc::STDOUT_FILENO;
+use lookup::Lookup;
 use lookup::Record;
+use lookup::chunk_of;
+use lookup::lookup_arch;
 use mem::load::Word;
 use mem::load::load_u32;
 use mem::load::load_u64;
@@ -23,9 +26,9 @@ use unwind::RaiseAnswer;
 use unwind::ResumeAnswer;
 use unwind::Resumed;
 use unwind::Walked;
-use unwind::next_frame;
-use unwind::raise;
-use unwind::resume;
+use unwind::cleanup::resume;
+use unwind::search::raise;
+use unwind::walk::next_frame;
 
 // The first eight bytes of a capture, MORTHCAP, as a little-endian number.
 const MAGIC: usize = 0x5041_4348_5452_4f4d;
@@ -141,6 +144,16 @@ fn column(n: usize) {
         put(b" ");
     }
     decimal(n);
+}
+
+// A number of at most seven digits, as an offset in a capture has, set to the right.
+fn wide_column(n: usize) {
+    if n < 100000 {
+        put(b"  ");
+    } else if n < 1000000 {
+        put(b" ");
+    }
+    column(n);
 }
 
 // The name of a refusal.
@@ -264,9 +277,21 @@ fn row_cell(start: usize, row: Row) {
     }
 }
 
-// A line of the frame table.
-fn frame_line(number: usize, start: usize, pc: usize, sp: usize, row: Row) {
+// A line of the frame table, with the record's chunk: its offset in the section, and its bytes.
+fn frame_line(
+    number: usize,
+    chunk: usize,
+    bytes: usize,
+    start: usize,
+    pc: usize,
+    sp: usize,
+    row: Row,
+) {
     column(number);
+    put(b"  ");
+    wide_column(chunk);
+    put(b" ");
+    wide_column(bytes);
     put(b"  ");
     hex(start);
     put(b"  ");
@@ -276,6 +301,22 @@ fn frame_line(number: usize, start: usize, pc: usize, sp: usize, row: Row) {
     put(b"  ");
     row_cell(start, row);
     put(b"\n");
+}
+
+// Looked up is pc - 1, or pc for an interrupted frame.
+fn looked_up(interrupted: bool, pc: usize) -> usize {
+    if interrupted {
+        return pc;
+    }
+    wrapping::sub(pc, 1)
+}
+
+// Where the chunk of a record that was found begins in the section.
+fn chunk_offset(found: Lookup) -> usize {
+    match found {
+        Lookup::Found(_, chunk) => chunk.offset,
+        _ => 0,
+    }
 }
 
 // A frame with its record; whether its row is refused.
@@ -298,7 +339,17 @@ fn past<'a>(
         record,
         regs.pc(),
     );
-    frame_line(number, record.start, regs.pc(), value(regs.sp(c.arch)), row);
+    let at = looked_up(interrupted, regs.pc());
+    let chunk = chunk_of(section, c.section_base, stack, c.stack_base, at, c.arch);
+    frame_line(
+        number,
+        chunk_offset(lookup_arch(section, c.section_base, stack, c.stack_base, at, c.arch)),
+        chunk.len(),
+        record.start,
+        regs.pc(),
+        value(regs.sp(c.arch)),
+        row,
+    );
     match row {
         Row::None => Turn::On,
         Row::Is(_, _) => Turn::On,
@@ -361,7 +412,7 @@ fn met(spot: Spot, turn: Turn, number: usize, pc: usize) -> Spot {
 
 // The frame table, and how the walk ends.
 fn frames<'a>(section: &'a [u8], stack: &'a [u8], c: Capture) -> Spot {
-    put(b"\nframe  record start      pc                sp                row\n");
+    put(b"\nframe    chunk   bytes  record start      pc                sp                row\n");
     let regs = c.regs;
     let mut number: usize = 0;
     let mut first = c.interrupted;

@@ -7,7 +7,7 @@ mod stacks;
 mod tables;
 mod timing;
 
-use morthwyga::{PC_COLUMN, Record, Regs, State, Unwinding};
+use morthwyga::{PC_COLUMN, RawUnwinding, Record, Regs, State};
 use ps_unwind::abi::{Cursor, UA_CLEANUP_PHASE};
 use ps_unwind::arch;
 use ps_unwind::eko::{self, HOST};

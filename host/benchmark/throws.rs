@@ -7,7 +7,7 @@ use ps_unwind::frame::{FrameInfo, Kind};
 
 use crate::stacks::{bytes, section, stacks};
 use crate::timing::measure_over;
-use crate::{ANSWERED, NONE, PC_COLUMN, Regs, Unwinding, X86_64, address, file, raw};
+use crate::{ANSWERED, NONE, PC_COLUMN, RawUnwinding, Regs, X86_64, address, file, raw};
 
 const EXCEPTION: usize = 99;
 
@@ -131,7 +131,7 @@ impl Case {
         lend!(eko_raise, &self.section, stack, X86_64, regs, regs.r[PC_COLUMN], false, EXCEPTION)
     }
 
-    fn resume(&self, i: usize, mut unwinding: Unwinding) -> Place {
+    fn resume(&self, i: usize, mut unwinding: RawUnwinding) -> Place {
         let (stack, mut landings) = (bytes(&self.stacks[i].0), (0, 0, 0));
         loop {
             let next = lend!(eko_resume, &self.section, stack, X86_64, unwinding);

@@ -53,13 +53,15 @@ fn throw(memory: Memory, regs: Regs) -> Result<(), Failure> {
         Raised::EndOfStack => println!("no frame catches"),
     }
     loop {
-        match memory.resume(ARCH, unwinding)? {
-            Resumed::Landing { number, regs, next } => {
+        let (resumed, next) = memory.resume(ARCH, unwinding);
+        match resumed? {
+            Resumed::Landing { number, regs } => {
                 println!("landing in frame {number}: pc {:x}, sp {:x}, exception {}", regs.pc(), regs.sp(ARCH)?, regs.r[0]);
-                unwinding = next;
             }
-            Resumed::Terminated => return Ok(println!("a row terminates")),
-            Resumed::Finished => return Ok(println!("finished")),
+            Resumed::Terminated => break println!("a row terminates"),
+            Resumed::Finished => break println!("finished"),
         }
+        unwinding = next;
     }
+    Ok(())
 }

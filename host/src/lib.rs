@@ -9,9 +9,13 @@
 //!
 //! let memory = Memory { section: &[], section_base: 0x1000, stack: &[], stack_base: 0x2000 };
 //! assert_eq!(memory.lookup(Arch::X86_64, 0x1234), Ok(None));
+//! let refused = Memory { stack_base: 0, ..memory }.lookup(Arch::X86_64, 0x1234).unwrap_err();
+//! assert_eq!((refused, refused.number()), (Failure::BadOpening, 28));
+//! assert_eq!(refused.to_string(), "28 BadOpening: the opening rule is broken, or a state counts more than 32 pairs.");
 //! ```
 //!
-//! A throw is [`Memory::raise`], and after it [`Memory::resume`] until it has finished: each gives the next landing.
+//! A throw is [`Memory::raise`], and after it [`Memory::resume`] until it has finished: each gives the next landing. Both hand back an
+//! [`Unwinding`], which the next call takes.
 //!
 //! ```
 //! use morthwyga::{Arch, Memory, Raised, Regs, Resumed};
@@ -29,14 +33,25 @@
 //!
 //! let (raised, unwinding) = memory.raise(Arch::X86_64, regs, 0x5005, false, 77);
 //! assert_eq!(raised, Ok(Raised::Chosen { number: 0, sp: 0x2000 }));
-//! let Ok(Resumed::Landing { number: 0, regs, next }) = memory.resume(Arch::X86_64, unwinding) else { panic!() };
+//! let (resumed, unwinding) = memory.resume(Arch::X86_64, unwinding);
+//! let Ok(Resumed::Landing { number: 0, regs }) = resumed else { panic!() };
 //! assert_eq!((regs.pc(), regs.r[0]), (0x5008, 77));
-//! assert_eq!(memory.resume(Arch::X86_64, next), Ok(Resumed::Finished));
+//! let (resumed, _) = memory.resume(Arch::X86_64, unwinding);
+//! assert_eq!(resumed, Ok(Resumed::Finished));
 //! ```
+//!
+//! The numbers that the library answers are those that this crate knows. An unknown one is a panic that names it: then crate and
+//! library were not built together.
 //!
 //! [`Memory::capture`] writes the arguments of a throw to a file, to be looked at later.
 #![warn(missing_docs)]
+mod failure;
+#[cfg(test)]
+mod layout;
 mod raw;
+
+pub use failure::Failure;
+use failure::unknown;
 
 /// An architecture, by the number that an EKO section names it with.
 #[derive(Clone, Copy, PartialEq, Eq, Debug)]
@@ -46,70 +61,6 @@ pub enum Arch {
     Aarch64 = 1,
     /// 64-bit x86.
     X86_64 = 2,
-}
-
-/// Why a call was refused.
-#[derive(Clone, Copy, PartialEq, Eq, Debug)]
-pub enum Failure {
-    /// 10: a state program remembers a fifth state.
-    RememberStackOverflow,
-    /// 11: a register number that the architecture does not have.
-    UnknownRegister,
-    /// 12: the canonical frame address is 0.
-    BadCfaRule,
-    /// 17: a chunk's header is wrong: magic, version, architecture, flags or size.
-    BadEkoHeader,
-    /// 18: a record, frame word, state program or row is malformed or cut short.
-    BadEkoRecord,
-    /// 19: a record overlaps its neighbour.
-    EkoUnsorted,
-    /// 20: a caller's sp is lower than its callee's, or equal past the first frame.
-    StackNotAdvancing,
-    /// 22: the cleanup phase does not find the chosen frame as the search phase left it.
-    HandlerFrameMissed,
-    /// 23: fp is the base and is 0 or no multiple of 8.
-    Misaligned,
-    /// 24: rows do not rise strictly, so that a return offset may have two.
-    EkoAmbiguousCallSite,
-    /// 25: an interrupted frame has a version 1 word that describes call sites only.
-    EkoAsyncFrame,
-    /// 27: the bytes to be read lie whole in neither slice.
-    OutsideMemory,
-    /// 28: the opening rule is broken, or a state counts more than 32 pairs.
-    BadOpening,
-    /// 29: 1,024 frames were given and the stack goes on.
-    TooManyFrames,
-}
-
-/// Every failure with its number.
-const FAILURES: [(u32, Failure); 14] = [
-    (10, Failure::RememberStackOverflow),
-    (11, Failure::UnknownRegister),
-    (12, Failure::BadCfaRule),
-    (17, Failure::BadEkoHeader),
-    (18, Failure::BadEkoRecord),
-    (19, Failure::EkoUnsorted),
-    (20, Failure::StackNotAdvancing),
-    (22, Failure::HandlerFrameMissed),
-    (23, Failure::Misaligned),
-    (24, Failure::EkoAmbiguousCallSite),
-    (25, Failure::EkoAsyncFrame),
-    (27, Failure::OutsideMemory),
-    (28, Failure::BadOpening),
-    (29, Failure::TooManyFrames),
-];
-
-impl Failure {
-    /// The number of this failure.
-    pub fn number(self) -> u32 {
-        let (number, _) = FAILURES.iter().find(|(_, f)| *f == self).expect("every failure is listed");
-        *number
-    }
-
-    fn of(number: u32) -> Failure {
-        let (_, failure) = FAILURES.iter().find(|(n, _)| *n == number).expect("the library answers listed numbers only");
-        *failure
-    }
 }
 
 /// The column of pc in a register file.
@@ -187,7 +138,7 @@ impl Row {
             0 => Action::Cleanup,
             1 => Action::Catch,
             2 => Action::Terminate,
-            _ => unreachable!("a row with any other action is refused"),
+            other => unknown("action", other),
         };
         Row { pad: a.pad, action }
     }
@@ -226,7 +177,7 @@ impl Reason {
             6 => Reason::HandlerFound,
             7 => Reason::InstallContext,
             8 => Reason::ContinueUnwind,
-            _ => unreachable!("the library answers the five reasons only"),
+            other => unknown("reason", other),
         }
     }
 }
@@ -341,7 +292,7 @@ macro_rules! lend {
 
 mod capture;
 mod unwinding;
-pub use unwinding::{Frame, Place, Raised, Resumed, Unwinding};
+pub use unwinding::{Frame, Place, Raised, RawUnwinding, Resumed, Unwinding};
 
 impl Memory<'_> {
     /// The record of the function that pc lies in.
@@ -377,13 +328,13 @@ impl Memory<'_> {
     /// The row of a return offset in a version 1 table.
     pub fn handler(self, table: usize, ret: u32) -> Result<Option<Row>, Failure> {
         let a = lend!(self, eko_handler, table, ret);
-        optional(a.status, Row::of(a))
+        optional(a.status, a).map(|found| found.map(Row::of))
     }
 
     /// The row of a return offset in a version 2 table.
     pub fn handler2(self, table: usize, limit: usize, ret: u32) -> Result<Option<Row>, Failure> {
         let a = lend!(self, eko_handler2, table, limit, ret);
-        optional(a.status, Row::of(a))
+        optional(a.status, a).map(|found| found.map(Row::of))
     }
 
     /// The reason of a frame, and the registers that go with it.
@@ -399,5 +350,28 @@ impl Memory<'_> {
         let cleanup = phase == Phase::Cleanup;
         let a = lend!(self, eko_personality, arch as u8, cleanup, exception, interrupted, function, regs);
         answered(a.status, (a.reason, a.regs)).map(|(reason, regs)| (Reason::of(reason), regs))
+    }
+}
+
+#[cfg(test)]
+mod tests {
+    use super::*;
+
+    #[test]
+    #[should_panic(expected = "the action 3, which this crate does not know: crate and library do not match")]
+    fn an_unknown_action_is_named() {
+        Row::of(raw::RowFound { status: 0, pad: 0, action: 3 });
+    }
+
+    #[test]
+    #[should_panic(expected = "the reason 5, which this crate does not know: crate and library do not match")]
+    fn an_unknown_reason_is_named() {
+        Reason::of(5);
+    }
+
+    #[test]
+    #[should_panic(expected = "the status 1, which this crate does not know: crate and library do not match")]
+    fn a_number_without_value_is_no_answer() {
+        let _ = answered(1, ());
     }
 }

@@ -1,6 +1,6 @@
 //! The C interface of the proved library: the structs of `crates/answers` and the functions of `crates/capi`. A slice is a pointer
 //! and a length.
-use crate::{Record, Regs, State, Unwinding};
+use crate::{RawUnwinding, Record, Regs, State};
 
 #[repr(C)]
 pub struct Number {
@@ -82,7 +82,7 @@ pub struct Batch {
 
 #[repr(C)]
 pub struct Raised {
-    pub unwinding: Unwinding,
+    pub unwinding: RawUnwinding,
     pub number: usize,
     pub sp: usize,
     pub status: u32,
@@ -92,7 +92,7 @@ pub struct Raised {
 #[repr(C)]
 pub struct Resumed {
     pub regs: Regs,
-    pub unwinding: Unwinding,
+    pub unwinding: RawUnwinding,
     pub number: usize,
     pub status: u32,
     pub reason: u32,
@@ -167,6 +167,6 @@ unsafe extern "C" {
     pub fn eko_resume(
         section: *const u8, section_len: usize, section_base: usize,
         stack: *const u8, stack_len: usize, stack_base: usize,
-        arch: u8, unwinding: Unwinding,
+        arch: u8, unwinding: RawUnwinding,
     ) -> Resumed;
 }

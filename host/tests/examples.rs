@@ -1,4 +1,7 @@
 //! Document 01's examples and the edges of the interface, through the static library.
+use std::collections::HashSet;
+use std::error::Error;
+
 use morthwyga::{Action, Arch, Failure, Memory, PC_COLUMN, Phase, Reason, Record, Regs, Row, State, strip_pac};
 
 const SECTION: usize = 0x1000;
@@ -102,4 +105,16 @@ fn what_is_lent_twice_is_refused() {
 fn failures_have_document_01s_numbers() {
     assert_eq!(Failure::BadEkoRecord.number(), 18);
     assert_eq!(Failure::TooManyFrames.number(), 29);
+}
+
+#[test]
+fn failures_are_errors_that_say_number_name_and_meaning() {
+    let error: Box<dyn Error + Send + Sync> = uleb(&[0x80; 5]).unwrap_err().into();
+    assert_eq!(
+        error.to_string(),
+        "18 BadEkoRecord: a record, frame word, state program or row is malformed or cut short."
+    );
+    assert_eq!(error.downcast_ref(), Some(&Failure::BadEkoRecord));
+    let seen = HashSet::from([Failure::BadEkoRecord, Failure::BadOpening]);
+    assert!(seen.contains(&Failure::BadOpening) && !seen.contains(&Failure::Misaligned));
 }

@@ -49,8 +49,9 @@ fn landings(lent: impl Fn(usize) -> Vec<usize>) -> Result<Vec<[usize; 4]>, Failu
     assert_eq!(raised, Ok(Raised::Chosen { number: CHOSEN, sp: sp(CHOSEN) }));
     let mut landings = Vec::new();
     loop {
-        let now = stack(&lent(unwinding.number));
-        let Resumed::Landing { number, regs, next } = lend(&section, &now).resume(ARCH, unwinding)? else {
+        let now = stack(&lent(unwinding.raw().number));
+        let (resumed, next) = lend(&section, &now).resume(ARCH, unwinding);
+        let Resumed::Landing { number, regs } = resumed? else {
             return Ok(landings);
         };
         landings.push([number, regs.pc(), regs.sp(ARCH)?, regs.get(ARCH, 3)?]);

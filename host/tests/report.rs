@@ -5,7 +5,7 @@ use std::fs;
 use std::path::Path;
 
 const HEAD: usize = 400;
-const FRAMES: &str = "\nframe  record start      pc                sp                row\n";
+const FRAMES: &str = "\nframe    chunk   bytes  record start      pc                sp                row\n";
 const PADS: &str = "\n  pad  frame  pc                sp, and the preserved registers\n";
 
 struct Capture<'a> {
@@ -52,8 +52,30 @@ impl Capture<'_> {
             let (pc, sp) = (frame.regs.pc(), frame.regs.sp(self.arch).unwrap());
             let row = self.row(frame, record);
             spot = spot.or(row.starts_with("refused").then_some(frame));
-            writeln!(text, "{:5}  {:016x}  {pc:016x}  {sp:016x}  {row}", frame.number, record.start).unwrap();
+            let (number, start, (chunk, size)) = (frame.number, record.start, self.chunk(record));
+            writeln!(text, "{number:5}  {chunk:7} {size:7}  {start:016x}  {pc:016x}  {sp:016x}  {row}").unwrap();
             frame = caller;
+        }
+    }
+
+    /// The offset and the size of the first chunk with a record that starts and ends so, going by the headers.
+    fn chunk(&self, record: Record) -> (usize, usize) {
+        let word = |at: usize| u32::from_le_bytes(self.memory.section[at..at + 4].try_into().unwrap());
+        let spans = |at: usize| {
+            let start = (self.memory.section_base + at).wrapping_add(word(at) as i32 as usize);
+            (start, start.wrapping_add(word(at + 4) as usize)) == (record.start, record.end)
+        };
+        let mut at = 0;
+        loop {
+            let stride = if self.memory.section[at + 4] == 1 { 16 } else { 12 };
+            let (count, size) = (word(at + 8) as usize, word(at + 12) as usize);
+            if word(at) == 0 {
+                at += 4;
+            } else if (0..count).any(|i| spans(at + 16 + i * stride)) {
+                return (at, size);
+            } else {
+                at += size;
+            }
         }
     }
 
@@ -88,13 +110,16 @@ impl Capture<'_> {
             Ok(Raised::EndOfStack) => return "throw: no frame catches; no landing pad runs\n".to_string(),
             Err(failure) => return format!("throw: {}; no landing pad runs\n", refused_at(spot.unwrap(), failure)),
         };
-        let mut turn = 0;
-        while let Ok(Resumed::Landing { number, regs, next }) = self.memory.resume(self.arch, unwinding) {
+        for turn in 0.. {
+            let (resumed, next) = self.memory.resume(self.arch, unwinding);
+            let Ok(Resumed::Landing { number, regs }) = resumed else {
+                assert_eq!(resumed, Ok(Resumed::Finished));
+                break;
+            };
             let sp = regs.sp(self.arch).unwrap();
             writeln!(text, "{turn:5}  {number:5}  {:016x}  {sp:016x}{}", regs.pc(), self.registers(regs)).unwrap();
-            (turn, unwinding) = (turn + 1, next);
+            unwinding = next;
         }
-        assert_eq!(self.memory.resume(self.arch, unwinding), Ok(Resumed::Finished));
         text + "landings: finished\n"
     }
 
@@ -128,5 +153,5 @@ fn the_texts_of_the_samples_are_what_the_library_answers() {
             count += 1;
         }
     }
-    assert_eq!(count, 18);
+    assert_eq!(count, 22);
 }

@@ -2,7 +2,7 @@
 mod common;
 
 use common::{ARCH, EXCEPTION, FIRST, STACK, lend, regs, ret, section, stack};
-use morthwyga::{Failure, Frame, Memory, PC_COLUMN, Place, Raised, Resumed, Unwinding};
+use morthwyga::{Failure, Frame, Memory, PC_COLUMN, Place, Raised, RawUnwinding, Resumed, Unwinding};
 
 /// Programs with rows: entry state, then one row at offset 5, or none.
 const CLEANUP: &[u8] = &[0x00, 1, 5, 4 * 8];
@@ -16,9 +16,17 @@ fn raise(memory: Memory, interrupted: bool) -> (Result<Raised, Failure>, Unwindi
 
 /// The next landing's frame number, pc and sp, and the unwinding after it.
 fn landing(memory: Memory, unwinding: Unwinding) -> ((usize, usize, usize), Unwinding) {
-    let Ok(Resumed::Landing { number, regs, next }) = memory.resume(ARCH, unwinding) else { panic!("no landing") };
+    let (resumed, next) = memory.resume(ARCH, unwinding);
+    let Ok(Resumed::Landing { number, regs }) = resumed else { panic!("no landing") };
     assert_eq!((regs.r[0], regs.r[1], regs.r[3]), (EXCEPTION, 0, 103));
     ((number, regs.pc(), regs.r[7]), next)
+}
+
+/// What a call comes to that gives no landing: it hands back the unwinding that it was given.
+fn unlanded(memory: Memory, unwinding: RawUnwinding) -> Result<Resumed, Failure> {
+    let (resumed, next) = memory.resume(ARCH, Unwinding::from_raw(unwinding));
+    assert_eq!(next.raw(), unwinding);
+    resumed
 }
 
 #[test]
@@ -68,8 +76,10 @@ fn a_throw_lands_at_each_cleanup_and_then_at_the_catch() {
     assert_eq!(first, (0, FIRST + 8, STACK));
     let (second, unwinding) = landing(memory, unwinding);
     assert_eq!(second, (2, FIRST + 32 + 9, STACK + 16));
-    assert_eq!(memory.resume(ARCH, unwinding), Ok(Resumed::Finished));
-    assert_eq!(memory.resume(ARCH, unwinding), Ok(Resumed::Finished));
+    assert_eq!(unlanded(memory, unwinding.raw()), Ok(Resumed::Finished));
+    let (resumed, unwinding) = memory.resume(ARCH, unwinding);
+    assert_eq!(resumed, Ok(Resumed::Finished));
+    assert_eq!(memory.resume(ARCH, unwinding).0, Ok(Resumed::Finished));
 }
 
 #[test]
@@ -88,7 +98,7 @@ fn terminate_stops_a_throw_and_the_end_answers_5() {
         let memory = lend(&section, &stack);
         let (raised, unwinding) = raise(memory, false);
         assert_eq!(raised, Ok(answer));
-        assert_eq!(memory.resume(ARCH, unwinding), Ok(Resumed::Finished));
+        assert_eq!(unlanded(memory, unwinding.raw()), Ok(Resumed::Finished));
     }
 }
 
@@ -97,7 +107,7 @@ fn a_terminate_below_the_chosen_frame_answers_2() {
     let (catch, terminate) = (section(&[PLAIN, CATCH]), section(&[TERMINATE, CATCH]));
     let stack = stack(&[ret(1), 0]);
     let (_, unwinding) = raise(lend(&catch, &stack), false);
-    assert_eq!(lend(&terminate, &stack).resume(ARCH, unwinding), Ok(Resumed::Terminated));
+    assert_eq!(unlanded(lend(&terminate, &stack), unwinding.raw()), Ok(Resumed::Terminated));
 }
 
 #[test]
@@ -118,14 +128,16 @@ fn sp_rises_past_the_first_frame() {
 }
 
 #[test]
-fn another_stack_misses_the_chosen_frame() {
+fn another_stack_misses_the_chosen_frame_and_the_right_one_finds_it_then() {
     let section = section(&[PLAIN, CATCH]);
     let (right, wrong) = (stack(&[ret(1), 0]), stack(&[0, 0]));
     let (_, unwinding) = raise(lend(&section, &right), false);
-    assert_eq!(lend(&section, &wrong).resume(ARCH, unwinding), Err(Failure::HandlerFrameMissed));
+    let other = RawUnwinding { chosen_sp: 1, ..unwinding.raw() };
+    assert_eq!(unlanded(lend(&section, &right), other), Err(Failure::HandlerFrameMissed));
+    let (resumed, unwinding) = lend(&section, &wrong).resume(ARCH, unwinding);
+    assert_eq!(resumed, Err(Failure::HandlerFrameMissed));
     let broken = Memory { stack_base: 0, ..lend(&section, &right) };
-    assert_eq!(broken.resume(ARCH, unwinding), Err(Failure::BadOpening));
-    let other = Unwinding { chosen_sp: 1, ..unwinding };
-    assert_eq!(lend(&section, &right).resume(ARCH, other), Err(Failure::HandlerFrameMissed));
+    let (resumed, unwinding) = broken.resume(ARCH, unwinding);
+    assert_eq!(resumed, Err(Failure::BadOpening));
     assert_eq!(landing(lend(&section, &right), unwinding).0, (1, FIRST + 16 + 9, STACK + 8));
 }

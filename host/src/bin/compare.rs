@@ -1,5 +1,6 @@
 //! `compare REQUESTS ORACLE PROBE`: the answers of both to the same requests, line by line. It prints how many agree and how
-//! many differ by a rule of docs/DIFFERENCES.md; any other difference is printed whole, and the exit status is 1.
+//! many differ by a rule of docs/DIFFERENCES.md; any other difference is printed whole, and the exit status is 1. The oracle's
+//! answers to walk, unwind and sweep are those that `compose` makes of its other ones.
 use std::collections::BTreeMap;
 use std::fs::File;
 use std::io::{self, BufRead, BufReader};
@@ -117,11 +118,32 @@ impl Request<'_> {
 
     fn verdict(&self, oracle: &str, probe: &str) -> Verdict {
         match (self.refused(), oracle, probe) {
-            (Some(true), _, "err 28") => Verdict::Opening,
+            (Some(true), _, _) if Some(probe) == self.refusal().as_deref() => Verdict::Opening,
             (Some(false), "outside", "err 27") => Verdict::Outside,
-            (Some(false), _, _) if oracle == probe && !["err 28", "bad"].contains(&probe) => Verdict::Equal,
+            (Some(false), _, _) if oracle == probe && probe != "bad" && !probe.contains("err 28") => Verdict::Equal,
             _ => Verdict::Different,
         }
+    }
+
+    /// The answer of a request that is refused with 28: a walk gives no frame, each sweep call is refused as the throw is, and a
+    /// sweep call hands back the unwinding that it got.
+    fn refusal(&self) -> Option<String> {
+        let refused = "err 28";
+        match self.operation {
+            "walk" => Some(format!("walk {refused}")),
+            "unwind" => {
+                let calls = tokens::number(self.arguments.get(2)?)?;
+                Some(vec![refused; calls as usize + 1].join(" | "))
+            }
+            "sweep" => Some(format!("{refused} | next {}", self.numbers()?.join(" "))),
+            _ => Some(refused.to_string()),
+        }
+    }
+
+    /// The arguments in decimal, lists of numbers among them.
+    fn numbers(&self) -> Option<Vec<String>> {
+        let decimal = |numbers: Vec<u64>| numbers.iter().map(u64::to_string).collect::<Vec<_>>().join(",");
+        self.arguments.iter().map(|word| tokens::list(word).map(decimal)).collect()
     }
 
     /// Whether document 01 refuses the request with 28; none where the request is malformed.

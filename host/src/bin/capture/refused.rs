@@ -1,6 +1,6 @@
-//! One capture for each refusal that a throw can meet.
+//! One capture for each refusal that a throw can meet, and some for the order of two.
 use crate::format::{Capture, Sample};
-use crate::section::{CATCHES, Framed, Function, PAD, RETURN, SECTION, STACK, chunk1, chunk2, ret};
+use crate::section::{CATCHES, Framed, Function, PAD, RETURN, Row, SECTION, STACK, chunk1, chunk2, ret};
 use morthwyga::{Action, Arch, Regs};
 
 /// Two x86-64 functions whose frames are their return addresses alone. The first, which throws, has this program; the second
@@ -48,10 +48,23 @@ fn same_sp() -> Capture {
     with(capture, 7, STACK + 8)
 }
 
+/// Two rows for one return offset.
+const TWICE: &[Row] = &[(RETURN, PAD, Action::Catch), (RETURN, PAD + 8, Action::Catch)];
+
 /// The function that throws has two rows for one return offset.
 fn two_rows() -> Capture {
-    let rows = &[(RETURN, PAD, Action::Catch), (RETURN, PAD + 8, Action::Catch)];
-    Capture { section: chunk2(Arch::X86_64, SECTION, 0, &[Function { program: &[0x00], rows }]), ..good() }
+    Capture { section: chunk2(Arch::X86_64, SECTION, 0, &[Function { program: &[0x00], rows: TWICE }]), ..good() }
+}
+
+/// The same function called itself, and the stack ends with the first return address.
+fn row_and_caller() -> Capture {
+    Capture { stack: stack(&[ret(0)]), ..two_rows() }
+}
+
+/// Frames that take no room, as in `same_sp`, of a function with two rows for the return offset of frame 1; frame 0 has no row.
+fn same_sp_and_row() -> Capture {
+    let section = chunk2(Arch::X86_64, SECTION, 0, &[Function { program: &[0x40, 0x00], rows: TWICE }]);
+    Capture { section, pc: ret(0) - 8, ..same_sp() }
 }
 
 /// A version 1 word that describes the frame at its calls only, and an interrupt.
@@ -60,12 +73,15 @@ fn interrupted() -> Capture {
     Capture { section, interrupted: true, ..good() }
 }
 
-/// 1,025 open calls of one function.
-fn frames() -> Capture {
+/// 1,024 open calls of one function, and a frame above them at this pc.
+fn frames(above: usize) -> Capture {
     let mut words = [ret(0); 1025];
-    words[1024] = 0;
+    (words[1023], words[1024]) = (above, 0);
     Capture { stack: stack(&words), ..good() }
 }
+
+/// An address in no record.
+const NOWHERE: usize = 0x50_0000;
 
 pub fn samples() -> Vec<Sample> {
     let samples = [
@@ -76,12 +92,16 @@ pub fn samples() -> Vec<Sample> {
         ("refused-18-unknown-operation", two(&[0xd0, 0x00])),
         ("refused-19-records-overlap", damaged(good(), 20, 0x48)),
         ("refused-20-same-sp", same_sp()),
+        ("refused-20-before-row", same_sp_and_row()),
         ("refused-23-odd-frame-pointer", with(two(&[0xc9, 0x00]), 6, STACK + 1)),
         ("refused-24-two-rows-for-a-call", two_rows()),
+        ("refused-24-row-before-caller", row_and_caller()),
         ("refused-25-interrupt-in-a-call-frame", interrupted()),
         ("refused-27-sp-outside-the-stack", with(good(), 7, STACK + 0x1000)),
+        ("refused-27-step-before-row", with(two_rows(), 7, STACK + 0x1000)),
         ("refused-28-section-at-0", Capture { section_base: 0, ..good() }),
-        ("refused-29-1025-frames", frames()),
+        ("refused-29-1025-frames", frames(ret(0))),
+        ("refused-29-outside-every-record", frames(NOWHERE)),
     ];
     samples.into_iter().map(|(name, capture)| (name, capture.bytes())).collect()
 }

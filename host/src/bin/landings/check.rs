@@ -1,12 +1,15 @@
 //! A throw by the library with its resume calls, and its walk, against what the machine expects.
 use morthwyga::{Frame, Memory, PC_COLUMN, Raised, Regs};
 
+use crate::checked::{self, ANSWERED, NONE};
 use crate::expected::Expected;
 use crate::figures::Figures;
+use crate::full;
 use crate::machine::{Machine, Throw};
 use crate::numbers::{File, Numbers, PC};
 use crate::random::Random;
-use crate::stack::hex;
+use crate::raw;
+use crate::requests;
 use crate::sweep::Sweep;
 
 /// What is not as expected.
@@ -34,22 +37,11 @@ impl Check<'_> {
 
     /// The throw and all its resume calls as a request to `probe`.
     pub fn request(&self) -> String {
-        let (memory, numbers) = (self.memory(), self.machine.numbers());
         let mut file = self.machine.registers;
         file[PC] = self.throw.pc;
-        let columns = (0..PC).take(if numbers.pushes { 16 } else { PC }).chain([PC]);
-        let regs: Vec<String> = columns.map(|column| file[column].to_string()).collect();
-        format!(
-            "{} {} {} {} unwind {} {} {} {}",
-            memory.section_base,
-            hex(memory.section),
-            memory.stack_base,
-            hex(memory.stack),
-            self.exception,
-            self.throw.interrupted as u8,
-            self.expected.landings.len() + 1,
-            regs.join(",")
-        )
+        let (interrupted, calls) = (self.throw.interrupted as u8, self.expected.landings.len() + 1);
+        let (ranges, list) = (requests::ranges(self.memory()), requests::list(self.machine.numbers(), &file));
+        format!("{ranges} unwind {} {interrupted} {calls} {list}", self.exception)
     }
 
     /// The throw, and the resume calls after it; after two of three throws landing pads write to the stack.
@@ -59,8 +51,17 @@ impl Check<'_> {
         if answer != Ok(self.expected.answer) {
             return Err(format!("the throw answers {answer:?}, not {:?}", self.expected.answer));
         }
+        if random.once_in(4) {
+            full::state(self.machine.numbers(), random, figures)?;
+        }
         let written = !random.once_in(3);
-        Sweep::new(self, unwinding, written).run(random, figures)
+        Sweep::new(self, unwinding.raw(), written).run(random, figures)
+    }
+
+    /// The throw in what is lent here; what it hands back is compared.
+    pub fn raise(&self, memory: Memory) -> Result<raw::Raised, String> {
+        let (arch, regs) = (self.machine.numbers().arch as u8, Regs { r: self.machine.registers });
+        checked::raise(memory, arch, regs, self.throw.pc, self.throw.interrupted, self.exception).map_err(|wrong| wrong.0)
     }
 
     /// The walk gives every open frame, and ends.
@@ -84,8 +85,25 @@ impl Check<'_> {
             frame = caller;
         }
         match memory.next_frame(numbers.arch, frame) {
-            Ok(None) => Ok(()),
+            Ok(None) => self.batches(frame.number),
             other => Err(format!("the walk goes on: {other:x?}")),
+        }
+    }
+
+    /// The walk by its calls gives so many frames; each call is compared with single steps.
+    fn batches(&self, frames: usize) -> Checked {
+        let (memory, arch) = (self.memory(), self.machine.numbers().arch as u8);
+        let mut regs = Regs { r: self.machine.registers };
+        regs.r[PC_COLUMN] = self.throw.pc;
+        let (mut at, mut given) = ((0, self.throw.interrupted, regs), 0);
+        loop {
+            let told = checked::walk(memory, arch, at.0, at.1, at.2).map_err(|wrong| wrong.0)?;
+            given += told.frames.count;
+            match told.status {
+                ANSWERED => at = (told.number, told.interrupted, told.regs),
+                NONE if given == frames => return Ok(()),
+                status => return Err(format!("the walk gives {given} frames and status {status}, not {frames} and 1")),
+            }
         }
     }
 }

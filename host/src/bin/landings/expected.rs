@@ -7,6 +7,9 @@ use crate::rows::{CATCH, Row, TERMINATE};
 
 pub struct Landing {
     pub number: usize,
+    /// The frame's function, and its row there.
+    pub function: usize,
+    pub row: usize,
     /// The frame's registers at its call.
     pub file: File,
     pub pc: usize,
@@ -34,6 +37,19 @@ fn row(machine: &Machine, frame: &Frame) -> Result<Option<Row>, ()> {
     }
 }
 
+/// A throw that is refused with 18: before any row that decides comes one that is no row, in a table that is good.
+pub fn refused(machine: &Machine, throw: Throw) -> bool {
+    for frame in machine.frames(throw) {
+        let function = &machine.section.functions[frame.open.function];
+        match row(machine, &frame) {
+            Err(()) => return !function.damaged,
+            Ok(Some(row)) if row.action == CATCH || row.action == TERMINATE => return false,
+            Ok(_) => {}
+        }
+    }
+    false
+}
+
 /// Of a throw within the rules: the answer and the landings due. None where the section is not sound.
 pub fn expected(machine: &Machine, throw: Throw) -> Option<Expected> {
     let frames: Vec<Frame> = machine.frames(throw).collect();
@@ -51,7 +67,8 @@ pub fn expected(machine: &Machine, throw: Throw) -> Option<Expected> {
 }
 
 fn landing(machine: &Machine, number: usize, frame: &Frame, row: Row) -> Landing {
-    let start = machine.section.functions[frame.open.function].start;
-    let (pc, wraps) = start.overflowing_add(row.pad as usize);
-    Landing { number, file: frame.file, pc, wraps }
+    let (index, function) = (frame.open.function, &machine.section.functions[frame.open.function]);
+    let (pc, wraps) = function.start.overflowing_add(row.pad as usize);
+    let place = function.rows.iter().flatten().position(|other| other.ret == row.ret).expect("a row of the function");
+    Landing { number, function: index, row: place, file: frame.file, pc, wraps }
 }

@@ -15,9 +15,14 @@ pub struct Figures {
     /// Landings of such calls, and those of them over a stack with another base or length.
     pub overwritten_landings: usize,
     pub resized_landings: usize,
-    /// Irregular calls that were refused, and others, which do not count.
-    pub irregular: usize,
-    pub uncounted: usize,
+    /// Irregular calls, by their status.
+    pub irregular: [usize; 30],
+    /// Calls with an opening or an architecture that is refused.
+    pub broken: usize,
+    /// Runs of programs that fill a state.
+    pub full: usize,
+    /// Throws that are refused for a row.
+    pub refused_throws: usize,
     pub walks: usize,
     /// Events within and against the rules.
     pub events: usize,
@@ -62,8 +67,16 @@ impl Figures {
             ("resume calls over an overwritten stack", self.overwritten),
             ("landings over an overwritten stack", self.overwritten_landings),
             ("of them with another base or length", self.resized_landings),
-            ("irregular calls refused", self.irregular),
-            ("irregular calls not counted", self.uncounted),
+            ("irregular calls refused", self.irregular[2..].iter().sum()),
+            ("of them with 18", self.irregular[18]),
+            ("of them with 22", self.irregular[22]),
+            ("of them with 24", self.irregular[24]),
+            ("of them with 27", self.irregular[27]),
+            ("of them with 29", self.irregular[29]),
+            ("irregular calls not refused", self.irregular[..2].iter().sum()),
+            ("calls refused with 28", self.broken),
+            ("runs that fill a state", self.full),
+            ("throws refused for a row", self.refused_throws),
             ("walks", self.walks),
             ("open frames at the throws", self.frames),
             ("of them version 1", self.version1),

@@ -1,10 +1,15 @@
 //! `landings [THROWS [SEED]]`: random throws of document 01's call machine, unwound by the library. The machine, written here a
 //! second time from the paper, says what each throw and each resume call must answer (demand 3), also where landing pads have
-//! written to the stack between the calls.
+//! written to the stack between the calls. `landings requests ARCH THROWS SEED` prints such throws, and others, as requests for `probe`.
+mod broken;
 mod check;
+#[allow(dead_code)]
+#[path = "../../checked.rs"]
+mod checked;
 mod driver;
 mod expected;
 mod figures;
+mod full;
 mod function;
 mod irregular;
 mod machine;
@@ -15,8 +20,10 @@ mod random;
 #[allow(dead_code)]
 #[path = "../../raw.rs"]
 mod raw;
+mod requests;
 mod rows;
 mod section;
+mod spoiled;
 mod stack;
 mod state;
 mod sweep;
@@ -25,20 +32,26 @@ use std::process::ExitCode;
 
 use check::Check;
 use driver::Driver;
-use expected::expected;
+use expected::{Expected, expected, refused};
 use figures::Figures;
 use function::Code;
 use machine::{Machine, Throw};
-use morthwyga::{Record, Regs, State, Unwinding};
+use morthwyga::{Raised, RawUnwinding, Record, Regs, State};
 use numbers::{Numbers, PC};
 use random::Random;
 use section::Section;
 
 fn main() -> ExitCode {
     let argument = |n, default| std::env::args().nth(n).map_or(Some(default), |word| word.parse().ok());
+    if std::env::args().nth(1).as_deref() == Some("requests") {
+        return match (argument(2, 0), argument(3, 0), argument(4, 0)) {
+            (Some(1), Some(throws), Some(seed)) => print(&numbers::AARCH64, throws, seed),
+            (Some(2), Some(throws), Some(seed)) => print(&numbers::X86_64, throws, seed),
+            _ => usage(),
+        };
+    }
     let (Some(throws), Some(seed)) = (argument(1, 1000), argument(2, 0)) else {
-        eprintln!("usage: landings [THROWS [SEED]]");
-        return ExitCode::from(2);
+        return usage();
     };
     for (name, numbers) in [("aarch64", &numbers::AARCH64), ("x86-64", &numbers::X86_64)] {
         let mut figures = Figures::default();
@@ -51,6 +64,28 @@ fn main() -> ExitCode {
             machine += 1;
         }
         figures.print(name);
+    }
+    ExitCode::SUCCESS
+}
+
+fn usage() -> ExitCode {
+    eprintln!("usage: landings [THROWS [SEED]], or landings requests ARCH THROWS SEED, where ARCH is 1 or 2");
+    ExitCode::from(2)
+}
+
+/// So many throws as requests, one from each machine.
+fn print(numbers: &'static Numbers, throws: usize, seed: usize) -> ExitCode {
+    let (mut random, mut figures) = (Random::new((seed << 32) as u64), Figures::default());
+    while figures.throws < throws {
+        let frames = random.within(1, 12);
+        let section = Section::random(numbers, &mut random, frames);
+        let machine = driver::fresh(&section, &mut random, frames);
+        let mut driver = Driver { machine, random: &mut random, figures: &mut figures };
+        let called = (1..frames).all(|_| driver.call(false)) && driver.call(true);
+        if let Some(throw) = driver.throw().filter(|_| called) {
+            requests::print(&driver.machine, throw, driver.random);
+            figures.throws += 1;
+        }
     }
     ExitCode::SUCCESS
 }
@@ -95,7 +130,7 @@ fn fork(driver: &mut Driver) -> Result<(), String> {
 fn compare(machine: &Machine, throw: Throw, random: &mut Random, figures: &mut Figures) -> Result<(), String> {
     let Some(expected) = expected(machine, throw) else {
         figures.unsound += 1;
-        return Ok(());
+        return if refused(machine, throw) { refused_throw(machine, throw, random, figures) } else { Ok(()) };
     };
     let check = Check { machine, throw, expected: &expected, exception: random.value() };
     let checked = check.throw(random, figures);
@@ -108,7 +143,18 @@ fn compare(machine: &Machine, throw: Throw, random: &mut Random, figures: &mut F
     Ok(())
 }
 
-fn count(machine: &Machine, throw: Throw, expected: &expected::Expected, figures: &mut Figures) {
+/// A throw that meets a refused row.
+fn refused_throw(machine: &Machine, throw: Throw, random: &mut Random, figures: &mut Figures) -> Result<(), String> {
+    let none = Expected { answer: Raised::EndOfStack, landings: Vec::new() };
+    let check = Check { machine, throw, expected: &none, exception: random.value() };
+    figures.refused_throws += 1;
+    match check.raise(check.memory())?.status {
+        18 => Ok(()),
+        status => Err(format!("the throw answers {status}, not 18\n{}", check.request())),
+    }
+}
+
+fn count(machine: &Machine, throw: Throw, expected: &Expected, figures: &mut Figures) {
     figures.throws += 1;
     figures.interrupts += throw.interrupted as usize;
     figures.answers[check::code(&expected.answer)] += 1;

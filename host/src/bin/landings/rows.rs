@@ -1,4 +1,6 @@
-//! Row tables: random ones, written in both versions.
+//! Row tables: random ones, written in both versions, with the place of each row.
+use std::ops::Range;
+
 use crate::program::uleb;
 use crate::random::Random;
 
@@ -54,20 +56,35 @@ fn row(random: &mut Random, ret: u32, shares: Shares) -> Row {
     }
 }
 
-/// A version 1 table.
-pub fn table(rows: &[Row]) -> Vec<u8> {
-    let words = rows.iter().flat_map(|row| [row.ret, row.pad, row.action]);
-    std::iter::once(rows.len() as u32).chain(words).flat_map(u32::to_le_bytes).collect()
+/// Where a row stands: its return offset, or in version 2 its delta; its pad and action.
+#[derive(Clone, PartialEq, Debug)]
+pub struct Place {
+    pub ret: Range<usize>,
+    pub rest: Range<usize>,
 }
 
-/// A version 2 table.
-pub fn table2(random: &mut Random, rows: &[Row]) -> Vec<u8> {
-    let (mut bytes, mut before) = (Vec::new(), 0);
-    uleb(random, rows.len(), &mut bytes);
-    for row in rows {
-        uleb(random, (row.ret - before) as usize, &mut bytes);
-        uleb(random, (row.pad * 4 + row.action) as usize, &mut bytes);
+/// A version 1 table that is written at the end of these bytes, and the places of its rows.
+pub fn table(rows: &[Row], bytes: &mut Vec<u8>) -> Vec<Place> {
+    bytes.extend((rows.len() as u32).to_le_bytes());
+    let write = |row: &Row| {
+        let at = bytes.len();
+        bytes.extend([row.ret, row.pad, row.action].iter().flat_map(|word| word.to_le_bytes()));
+        Place { ret: at..at + 4, rest: at + 4..at + 12 }
+    };
+    rows.iter().map(write).collect()
+}
+
+/// The same of version 2.
+pub fn table2(random: &mut Random, rows: &[Row], bytes: &mut Vec<u8>) -> Vec<Place> {
+    let mut before = 0;
+    uleb(random, rows.len(), bytes);
+    let write = |row: &Row| {
+        let at = bytes.len();
+        uleb(random, (row.ret - before) as usize, bytes);
+        let rest = bytes.len();
+        uleb(random, (row.pad * 4 + row.action) as usize, bytes);
         before = row.ret;
-    }
-    bytes
+        Place { ret: at..rest, rest: rest..bytes.len() }
+    };
+    rows.iter().map(write).collect()
 }

@@ -2,7 +2,7 @@
 use crate::function::{Code, Function};
 use crate::numbers::Numbers;
 use crate::random::Random;
-use crate::rows::{self, Shares};
+use crate::rows::{self, Place, Shares};
 
 pub struct Section {
     pub numbers: &'static Numbers,
@@ -10,6 +10,8 @@ pub struct Section {
     pub bytes: Vec<u8>,
     /// In rising order of their addresses.
     pub functions: Vec<Function>,
+    /// Where the rows of each function stand in the bytes.
+    pub places: Vec<Vec<Place>>,
 }
 
 /// A chunk: its version, and which functions it describes.
@@ -27,7 +29,7 @@ impl Section {
         let mut functions = Vec::new();
         let mut at = code(random, base);
         let interleaved = random.once_in(2);
-        let count = random.pick(&[1, 2, 4, 6, 10, 14, 30, 90]);
+        let count = random.pick(&[1, 2, 4, 6, 10, 14, 20, 30, 40, 90]);
         for i in 0..count {
             let k = if interleaved { random.below(chunks.len()) } else { i * chunks.len() / count };
             let mut function = Function::random(numbers, random, chunks[k].version, shares);
@@ -38,7 +40,8 @@ impl Section {
             chunks[k].functions.push(i);
             functions.push(function);
         }
-        let mut section = Section { numbers, base, bytes: Vec::new(), functions };
+        let places = vec![Vec::new(); functions.len()];
+        let mut section = Section { numbers, base, bytes: Vec::new(), functions, places };
         section.write(random, &chunks);
         section
     }
@@ -84,7 +87,7 @@ impl Section {
     fn write_function(&mut self, random: &mut Random, version: u8, chunk: usize, function: usize) -> Vec<u32> {
         self.bytes.extend((0..random.below(3)).map(|_| 0xee));
         let at = (self.bytes.len() - chunk) as u32;
-        let function = &self.functions[function];
+        let (function, places) = (&self.functions[function], &mut self.places[function]);
         match &function.code {
             Code::Word(word) => {
                 let Some(list) = &function.rows else {
@@ -97,7 +100,7 @@ impl Section {
                 if function.damaged {
                     list.reverse();
                 }
-                self.bytes.extend(rows::table(&list));
+                *places = rows::table(&list, &mut self.bytes);
                 vec![*word, at]
             }
             Code::Entry => vec![0],
@@ -106,8 +109,7 @@ impl Section {
                 let Some(list) = &function.rows else {
                     return vec![at];
                 };
-                let table = rows::table2(random, list);
-                self.bytes.extend(table);
+                *places = rows::table2(random, list, &mut self.bytes);
                 assert_eq!(version, 2);
                 vec![at | 1 << 31]
             }

@@ -22,6 +22,14 @@ impl State {
         self.pairs.push((reg, slot));
     }
 
+    /// The same, where a pair that is there keeps its place.
+    pub fn put(&mut self, reg: u16, slot: u16) {
+        match self.pairs.iter_mut().find(|(r, _)| *r == reg) {
+            Some(pair) => pair.1 = slot,
+            None => self.pairs.push((reg, slot)),
+        }
+    }
+
     pub fn restore(&mut self, numbers: &Numbers, reg: u16) {
         self.remove(reg);
         if numbers.pushes && reg == numbers.ra {

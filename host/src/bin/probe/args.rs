@@ -3,6 +3,7 @@ use std::str::SplitAsciiWhitespace;
 
 use morthwyga::{Arch, Failure, Regs, State};
 
+use crate::checked::Wrong;
 use crate::tokens;
 
 /// Why a request has no answer of its own.
@@ -10,6 +11,14 @@ pub enum Stop {
     /// The line is malformed.
     Bad,
     Refused(Failure),
+    /// The call hands back what it should not.
+    Wrong(Wrong),
+}
+
+impl From<Wrong> for Stop {
+    fn from(wrong: Wrong) -> Stop {
+        Stop::Wrong(wrong)
+    }
 }
 
 impl From<Failure> for Stop {

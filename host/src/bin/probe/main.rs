@@ -1,14 +1,24 @@
 //! `probe ARCH`: the library behind the line protocol of the oracle, for architecture 1 (aarch64) or 2 (x86-64).
 mod args;
+#[allow(dead_code)]
+#[path = "../../checked.rs"]
+mod checked;
+mod handed;
 mod operations;
+#[path = "../../raw.rs"]
+mod raw;
+mod text;
 #[path = "../../../../oracle/program/tokens.rs"]
 mod tokens;
+mod unwinding;
 
 use std::io::{self, BufRead, Write};
 use std::process::ExitCode;
 
 use args::Stop;
-use morthwyga::Arch;
+use checked::Wrong;
+use morthwyga::{Arch, RawUnwinding, Record, Regs, State};
+use text::failure_text;
 
 fn main() -> ExitCode {
     let arch = match std::env::args().nth(1).as_deref() {
@@ -41,7 +51,8 @@ fn answer(arch: Arch, line: &[u8]) -> String {
     };
     match operations::answer(arch, line) {
         Ok(text) => text,
-        Err(Stop::Refused(failure)) => operations::failure_text(failure),
+        Err(Stop::Refused(failure)) => failure_text(failure),
+        Err(Stop::Wrong(Wrong(text))) => format!("wrong: {text}"),
         Err(Stop::Bad) => "bad".to_string(),
     }
 }

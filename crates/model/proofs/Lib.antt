@@ -31,6 +31,7 @@ pub mod Landings
 pub mod Cleaning
 pub mod Live
 pub mod Calls
+pub mod Regular
 pub mod Usable
 pub mod Narrower
 pub mod FirstRow

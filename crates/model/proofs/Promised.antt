@@ -10,7 +10,7 @@ use Rattle.mem.specs.Memory.{Region, Lent}
 use Rattle.mem.specs.Opening.{opens}
 use Rattle.model.specs.declared.Unwinding.{Unwinding}
 use Rattle.model.specs.Cleanup.{Cleaned}
-use Rattle.model.specs.Search.{Searched, told, toldBy}
+use Rattle.model.specs.Search.{toldBy}
 use Rattle.model.specs.Unwinding.{raise, raised, resume, resumed}
 use Rattle.model.specs.Machine.{Machine, archOf, lentBy}
 use Rattle.model.specs.Throw.{throwAllowed}

@@ -57,12 +57,6 @@ regular-usable m i u c g =
 pub own-regular : (m : Machine) → opens (lentBy m) ≡ true → (u : Unwinding) → Regular m u (callOf m u)
 own-regular m accepted u = record { stack = m .stack; is = refl; accepted = accepted; bytes = refl; base = inr refl }
 
--- an empty stack may begin elsewhere
-pub empty-regular : (m : Machine) (other : Region) → m .stack .bytes ≡ [] → other .bytes ≡ [] →
-    opens (lentBy (withStack m other)) ≡ true → (u : Unwinding) → Regular m u (callOf (withStack m other) u)
-empty-regular m other own empty accepted u =
-    record { stack = other; is = refl; accepted = accepted; bytes = empty ∙ sym own; base = inl empty }
-
 -- where no slot is asked for, any stack that opens will do: nothing is chosen, or the chosen frame has landed
 module _ (m : Machine) (u : Unwinding) (other : Region) (accepted : opens (lentBy (withStack m other)) ≡ true) where
   pub unchosen-usable : u .chosen ≡ false → Usable m u (callOf (withStack m other) u)

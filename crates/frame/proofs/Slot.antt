@@ -7,10 +7,13 @@ use native.Mathlib.Omega.{arith}
 use lib.ListN.{take, drop}
 use Rattle.failure.specs.Outcome.{Outcome, Refused, Answer}
 use Rattle.failure.specs.Failure.{OutsideMemory}
-use Rattle.mem.specs.Memory.{Memory, size}
+use Rattle.mem.specs.Memory.{Memory, Lent, size}
+use Rattle.mem.specs.Opening.{opens}
 use Rattle.mem.specs.Place.{holds, bytesAt}
 use Rattle.mem.specs.Word.{littleEndian, load}
+use Rattle.mem.specs.Slot.{ByWords, ByLoads}
 use Rattle.mem.specs.Wrapping.{difference}
+use Rattle.mem.proofs.Slot.{by-words, by-loads}
 use Rattle.arch.specs.Arch.{Arch}
 use Rattle.arch.specs.File.{columnOf}
 use Rattle.frame.specs.Apply.{loadSlot}
@@ -20,6 +23,18 @@ use Rattle.frame.proofs.Cell.{cellOf}
 pub slot-at : (m : Memory) (at slot k : ℕ) (o : Outcome ℕ) → k ≡ difference at (8 * slot) → o ≡ load m 8 k → o ≡ loadSlot m at slot
 unfolding loadSlot
 slot-at m at slot k o e p = p ∙ ap (load m 8) e
+
+-- document 02 (b): a slot not refused is the word at its address plus 2^32 times the word 4 bytes on, both from the slice that holds it
+pub slot-by-words : (m : Memory) (at slot v : ℕ) → loadSlot m at slot ≡ Answer v → ByWords m (difference at (8 * slot)) v
+unfolding loadSlot
+slot-by-words m at slot v e = by-words m (difference at (8 * slot)) v e
+
+-- where what is lent is accepted, that is what loads of 4 bytes give
+pub slot-by-loads :
+    (l : Lent) → opens l ≡ true → (at slot v : ℕ) → loadSlot (l .regions) at slot ≡ Answer v →
+    ByLoads (l .regions) (difference at (8 * slot)) v
+unfolding loadSlot
+slot-by-loads l o at slot v e = by-loads l o (difference at (8 * slot)) v e
 
 module _ (a : Arch) (m : Memory) (at reg slot : ℕ) where
   -- a pair whose slot is read and whose register is known

@@ -1,6 +1,8 @@
 -- The laws that callers cite, each file named after the definition that it is about.
 pub mod Tests
 pub mod Place
+pub mod Accepted
+pub mod Slot
 pub mod Part
 pub mod Word
 pub mod Loaded

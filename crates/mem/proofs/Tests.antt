@@ -1,6 +1,6 @@
 -- Tests that come out alike. Assumes nothing.
 use mathlib.Core.Path.{_≡_, refl, sym, _∙_}
-use mathlib.Core.Bool.{Bool, true, false, _&&_}
+use mathlib.Core.Bool.{Bool, true, false, _&&_, _||_}
 use mathlib.Core.Logic.{_⊎_, inl, inr}
 use Prim.Native.Nat.{ℕ, _≤_, _<_}
 use lib.Dec.{leb}
@@ -33,3 +33,8 @@ both false t e = (e, absurd-false e)
   where
     absurd-false : false ≡ true → t ≡ true
     absurd-false p = cc
+
+-- one of two tests holds
+pub either : (s t : Bool) → (s || t) ≡ true → (s ≡ true) ⊎ (t ≡ true)
+either true t e = inl refl
+either false t e = inr e

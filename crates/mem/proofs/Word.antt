@@ -1,11 +1,12 @@
 -- Laws of little-endian numbers, over the width. Assumes nothing.
-use mathlib.Core.Path.{_≡_, ap}
-use mathlib.Core.List.{List}
-use Prim.Native.Nat.{ℕ, _+_, _*_, _<_}
+use mathlib.Core.Path.{_≡_, _∙_, ap}
+use mathlib.Core.List.{List, [], _∷_}
+use Prim.Native.Nat.{ℕ, zero, suc, _+_, _*_, _^_, _<_}
+use native.Mathlib.Nat.{pow-suc, zero-add, suc-add}
 use native.Mathlib.Omega.{arith}
 use native.Mathlib.Numerals.{add-one}
-use lib.ListN.{length, getD, drop, drop-of-length-le}
-use lib.Seq.{drop-cons}
+use lib.ListN.{length, getD, take, drop, drop-of-length-le}
+use lib.Seq.{drop-cons, take-nil}
 use Rattle.mem.specs.Word.{littleEndian}
 
 -- the number from place k on is the byte there and 256 times the number after it
@@ -15,3 +16,9 @@ from-place b k h = rw (add-one, drop-cons b k 0)
 -- past the last byte nothing is left
 pub from-end : (b : List ℕ) (k : ℕ) → length b ≡ k → littleEndian (drop k b) ≡ 0
 from-end b k e = ap littleEndian (drop-of-length-le b {i = k} (omega arith))
+
+-- the number in n + m bytes: that in the first n, and 256 ^ n times that in the next m
+pub joined : (n m : ℕ) (bs : List ℕ) → littleEndian (take (n + m) bs) ≡ littleEndian (take n bs) + 256 ^ n * littleEndian (take m (drop n bs))
+joined zero m bs = ap (λ (k : ℕ). littleEndian (take k bs)) (zero-add m) ∙ omega arith
+joined (suc n) m [] = rw (take-nil (suc n + m), take-nil m) (omega arith)
+joined (suc n) m (b ∷ bs) = rw (suc-add n m, pow-suc 256 n) (omega (arith, joined n m bs))

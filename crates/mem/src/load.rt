@@ -114,15 +114,8 @@ fn le8(b: &[u8]) -> usize
     requires { ⌜ length (now b) ≡ 8 ⌝ }
     ensures { λ r. ⌜ (r ≡ littleEndian (now (b .entry))) × (r < 256 ^ 8) ⌝ }
 {
-    // the lowest byte comes first: byte i counts 256^i
-    wide(b[0])
-        + 0x100 * wide(b[1])
-        + 0x1_0000 * wide(b[2])
-        + 0x100_0000 * wide(b[3])
-        + 0x1_0000_0000 * wide(b[4])
-        + 0x100_0000_0000 * wide(b[5])
-        + 0x1_0000_0000_0000 * wide(b[6])
-        + 0x100_0000_0000_0000 * wide(b[7])
+    // the lower word comes first; the other counts 2^32
+    le4(&b[0..4]) + 0x1_0000_0000 * le4(&b[4..8])
 }
 
 // The u64 in eight bytes; 27 for any other count of them.

@@ -8,14 +8,13 @@ use native.Mathlib.Omega.{arith}
 use lib.Dec.{eqb, ltb}
 use borrow.Author.Tests.{eqb-true, ne-eqb, ltb-true}
 use Rattle.failure.specs.Failure.{oneOf}
-use Rattle.mem.proofs.Tests.{both}
+use Rattle.mem.proofs.Tests.{both, either}
 use Rattle.arch.specs.Arch.{Arch}
 use Rattle.arch.specs.File.{fp}
 use Rattle.frame.specs.Layout.{Pair, Layout, cfa}
 use Rattle.frame.specs.Apply.{badFp}
 use Rattle.model.specs.Machine.{Open, value}
 use Rattle.model.specs.Described.{isOneOf, among, samePairs, isSpilled, haveKept, goodFp, fits}
-use Rattle.model.proofs.Loaded.{either}
 
 -- a pair that tests as one of those is
 one-in : (p : Pair) (qs : List Pair) → isOneOf p qs ≡ true → List·Memᴰ p qs

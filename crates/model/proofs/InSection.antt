@@ -1,21 +1,20 @@
 -- Where the program, the limit and the table of a record lie: in the section, whose sums do not wrap. Assumes nothing.
 use mathlib.Core.Path.{_≡_, refl, sym, ap, subst}
-use mathlib.Core.Bool.{Bool, true, false, _&&_}
+use mathlib.Core.Bool.{Bool, true, false}
 use mathlib.Core.List.{List, [], _∷_, List·Memᴰ·not-nil, List·Memᴰ·cases-cons, List·Memᴰ·append-cases}
 use mathlib.Core.Logic.{_⊎_, inl, inr}
 use Prim.Native.Nat.{ℕ, zero, suc, _+_, _-_, _^_, _≤_, _<_}
 use native.Mathlib.Nat.{pow-suc}
 use native.Mathlib.Omega.{arith}
-use lib.Dec.{eqb, leb, ltb, lit<}
+use lib.Dec.{eqb, ltb, lit<}
 use lib.ListN.{getD, take, drop}
 use lib.Seq.{getD-drop}
-use borrow.Author.Tests.{leb-true}
 use Rattle.failure.specs.Choice.{if_then_else_}
 use Rattle.mem.specs.Memory.{Region, Memory, size}
-use Rattle.mem.specs.Opening.{opens, bounded, apartFrom, accepted}
+use Rattle.mem.specs.Opening.{opens}
 use Rattle.mem.specs.Word.{littleEndian}
 use Rattle.mem.specs.Wrapping.{sum}
-use Rattle.mem.proofs.Tests.{both}
+use Rattle.mem.proofs.Accepted.{bounded-range, accepted-parts}
 use Rattle.arch.specs.Arch.{Arch, numbers}
 use Rattle.lookup.specs.Field.{word}
 use Rattle.lookup.specs.Record.{startAt, endAt, addressOf, offsetOf, handlersOf, placeOf, recordAt, recordAt2, recordOf}
@@ -48,18 +47,10 @@ pub record Bounds (section : Region) : Type 0 where
 
 -- what is lent is accepted only with such a section
 section-bounds : (section : Region) (m : Memory) → opens (record { regions = section ∷ m }) ≡ true → Bounds section
-unfolding opens bounded
+unfolding opens
 section-bounds section m e =
-    let base = section .base in
-    let first = both (bounded base (size section) && apartFrom section m) (accepted m) e .0 in
-    let range = both (bounded base (size section)) (apartFrom section m) first .0 in
-    let (most, last) = both (leb 1 base && leb base (2 ^ 62)) (leb (size section) (2 ^ 31)) range in
-    let (low, high) = both (leb 1 base) (leb base (2 ^ 62)) most in
-    record {
-      above = leb-true 1 base low;
-      below = leb-true base (2 ^ 62) high;
-      small = leb-true (size section) (2 ^ 31) last;
-    }
+    let (above, below, small) = bounded-range (section .base) (size section) (accepted-parts section m e .0) in
+    record { above = above; below = below; small = small }
 
 -- a record of a part is record number i of a chunk that lies in the part
 record Whence (bytes : List ℕ) (base : ℕ) (e : Entry) : Type 0 where

@@ -1,20 +1,22 @@
 -- Stores between the calls that spare live slots leave them as they were, and the stack in its place. Assumes nothing.
 use mathlib.Core.Bool.{true, _&&_}
 use mathlib.Core.List.{List, [], _∷_, _++_, List·Memᴰ, List·Memᴰ·not-nil, List·Memᴰ·cases-cons}
-use mathlib.Core.Logic.{⊎-elim}
+use mathlib.Core.Logic.{_⊎_, inl, inr, ⊎-elim}
 use mathlib.Core.Path.{_≡_, refl, _∙_, ap}
+use Prim.Native.Nat.{ℕ, _+_, _≤_}
+use native.Mathlib.Omega.{arith}
 use lib.ListN.{length}
 use Rattle.mem.specs.Memory.{Region, size}
 use Rattle.mem.specs.Opening.{apart, opens}
 use Rattle.mem.specs.Place.{holds}
 use Rattle.mem.proofs.Tests.{both}
+use Rattle.mem.proofs.Accepted.{apart-cases}
 use Rattle.arch.specs.Arch.{Arch}
 use Rattle.frame.specs.Layout.{Pair}
 use Rattle.model.specs.Machine.{Open, Tables, lending, address, Store, stored}
 use Rattle.model.specs.Between.{fitsIn, sparesOf, spares, storedAll, sparesAll}
 use Rattle.model.proofs.Chain.{Slot, AllLive}
 use Rattle.model.proofs.Slots.{stored-slot, stored-lent}
-use Rattle.model.proofs.Loaded.{apart-cases}
 
 -- stores, then others, are all of them
 pub stored-append : (r : Region) (ws vs : List Store) → storedAll r (ws ++ vs) ≡ storedAll (storedAll r ws) vs
@@ -24,6 +26,11 @@ stored-append r (w ∷ ws) vs = stored-append (stored r w) ws vs
 -- and one is that one
 pub stored-one : (r : Region) (w : Store) → storedAll r (w ∷ []) ≡ stored r w
 stored-one r w = refl
+
+-- a store that shares no address with 8 bytes stores none, or ends before them, or begins after them
+beside : (x n y : ℕ) → apart x n y 8 ≡ true → (n ≡ 0) ⊎ ((x + n ≤ y) ⊎ (y + 8 ≤ x))
+beside x n y e =
+    ⊎-elim (λ q. inl (⊎-elim (λ z. z) (λ (z : 8 ≡ 0). absurd (omega arith)) q)) (λ q. inr q) (apart-cases x n y 8 e)
 
 -- a store that lies in the stack
 module _ (r : Region) (w : Store) (fits : fitsIn r w ≡ true) where
@@ -40,7 +47,7 @@ module _ (r : Region) (w : Store) (fits : fitsIn r w ≡ true) where
       ⊎-elim
       (λ (i : p ≡ q).
       stored-slot r w held a f p
-      (apart-cases (w .address) (length (w .bytes)) (address (f .cfa) (p .slot))
+      (beside (w .address) (length (w .bytes)) (address (f .cfa) (p .slot))
       (ap (λ (o : Pair). apart (w .address) (length (w .bytes)) (address (f .cfa) (o .slot)) 8) i ∙ here))
       s)
       (λ (i : List·Memᴰ p ps). slots-live a f ps rest p i s)

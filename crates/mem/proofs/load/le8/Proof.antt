@@ -1,24 +1,37 @@
--- `mem::load::le8` meets its contract, byte by byte. Assumes nothing.
+-- `mem::load::le8` meets its contract, word by word. Assumes nothing.
 use native.Mathlib.Omega.{arith}
-use mathlib.Core.Path.{_≡_}
-use lib.ListN.{length}
+use mathlib.Core.Path.{sym, _∙_, ap}
+use lib.Seq.{take-all}
 use denote.Ref.{now}
-use Rattle.mem.proofs.Word.{from-place, from-end}
+use Rattle.mem.specs.Word.{littleEndian}
+use Rattle.mem.proofs.Word.{joined}
 use borrow.Author.Needs.{needs}
 use Rattle.mem.proofs.load.le8.Statement.{statement}
 use Rattle.mem.proofs.load.le8.Tie as tie
 
-shared-slice-read-wide : tie.Need-shared-slice-read-wide
-shared-slice-read-wide c = search needs
+sub-le4 : tie.Need-sub-le4
+sub-le4 c = search needs
 
-wide-requires : tie.Need-wide-requires
-wide-requires c κs = search needs
+part-le4-start : tie.Need-part-le4-start
+part-le4-start c = search needs
 
-shared-slice-read-wide-2 : tie.Need-shared-slice-read-wide-2
-shared-slice-read-wide-2 c = search needs
+part-le4-end : tie.Need-part-le4-end
+part-le4-end c = search needs
 
-wide-requires-2 : tie.Need-wide-requires-2
-wide-requires-2 c κs = search needs
+le4-requires : tie.Need-le4-requires
+le4-requires c κs = search needs
+
+sub-le4-2 : tie.Need-sub-le4-2
+sub-le4-2 c = search needs
+
+part-le4-start-2 : tie.Need-part-le4-start-2
+part-le4-start-2 c = search needs
+
+part-le4-end-2 : tie.Need-part-le4-end-2
+part-le4-end-2 c = search needs
+
+le4-requires-2 : tie.Need-le4-requires-2
+le4-requires-2 c κs = search needs
 
 mul-result : tie.Need-mul-result
 mul-result c = search needs
@@ -26,116 +39,24 @@ mul-result c = search needs
 add-result : tie.Need-add-result
 add-result c = search needs
 
-shared-slice-read-wide-3 : tie.Need-shared-slice-read-wide-3
-shared-slice-read-wide-3 c = search needs
-
-wide-requires-3 : tie.Need-wide-requires-3
-wide-requires-3 c κs = search needs
-
-mul-result-2 : tie.Need-mul-result-2
-mul-result-2 c = search needs
-
-add-result-2 : tie.Need-add-result-2
-add-result-2 c = search needs
-
-shared-slice-read-wide-4 : tie.Need-shared-slice-read-wide-4
-shared-slice-read-wide-4 c = search needs
-
-wide-requires-4 : tie.Need-wide-requires-4
-wide-requires-4 c κs = search needs
-
-mul-result-3 : tie.Need-mul-result-3
-mul-result-3 c = search needs
-
-add-result-3 : tie.Need-add-result-3
-add-result-3 c = search needs
-
-shared-slice-read-wide-5 : tie.Need-shared-slice-read-wide-5
-shared-slice-read-wide-5 c = search needs
-
-wide-requires-5 : tie.Need-wide-requires-5
-wide-requires-5 c κs = search needs
-
-mul-result-4 : tie.Need-mul-result-4
-mul-result-4 c = search needs
-
-add-result-4 : tie.Need-add-result-4
-add-result-4 c = search needs
-
-shared-slice-read-wide-6 : tie.Need-shared-slice-read-wide-6
-shared-slice-read-wide-6 c = search needs
-
-wide-requires-6 : tie.Need-wide-requires-6
-wide-requires-6 c κs = search needs
-
-mul-result-5 : tie.Need-mul-result-5
-mul-result-5 c = search needs
-
-add-result-5 : tie.Need-add-result-5
-add-result-5 c = search needs
-
-shared-slice-read-wide-7 : tie.Need-shared-slice-read-wide-7
-shared-slice-read-wide-7 c = search needs
-
-wide-requires-7 : tie.Need-wide-requires-7
-wide-requires-7 c κs = search needs
-
-mul-result-6 : tie.Need-mul-result-6
-mul-result-6 c = search needs
-
-add-result-6 : tie.Need-add-result-6
-add-result-6 c = search needs
-
-shared-slice-read-wide-8 : tie.Need-shared-slice-read-wide-8
-shared-slice-read-wide-8 c = search needs
-
-wide-requires-8 : tie.Need-wide-requires-8
-wide-requires-8 c κs = search needs
-
-mul-result-7 : tie.Need-mul-result-7
-mul-result-7 c = search needs
-
-add-result-7 : tie.Need-add-result-7
-add-result-7 c = search needs
-
 returns : tie.Need-returns
 returns c =
-    let b = now (c .before .before .before .before .before .before .before .before .before .before .before .before .before .before .before .before .before .args .b) in
-    let len : length b ≡ 8 = omega arith in
-    omega (arith, from-place b 0 (omega arith), from-place b 1 (omega arith), from-place b 2 (omega arith), from-place b 3 (omega arith), from-place b 4 (omega arith), from-place b 5 (omega arith), from-place b 6 (omega arith), from-place b 7 (omega arith), from-end b 8 len)
+    let b = now (c .before .before .before .before .before .args .b) in
+    let words = ap littleEndian (sym (take-all 8 b (omega arith))) ∙ joined 4 4 b in
+    (omega (arith, words, c .before .before .le4 .ensures .0, c .le42 .ensures .0), omega (arith, c .before .before .le4 .ensures .1, c .le42 .ensures .1))
 
 pub le8-spec : {M : Type 1} → statement M
 le8-spec =
     tie.close
     (tie.spec
-    shared-slice-read-wide
-    wide-requires
-    shared-slice-read-wide-2
-    wide-requires-2
+    sub-le4
+    part-le4-start
+    part-le4-end
+    le4-requires
+    sub-le4-2
+    part-le4-start-2
+    part-le4-end-2
+    le4-requires-2
     mul-result
     add-result
-    shared-slice-read-wide-3
-    wide-requires-3
-    mul-result-2
-    add-result-2
-    shared-slice-read-wide-4
-    wide-requires-4
-    mul-result-3
-    add-result-3
-    shared-slice-read-wide-5
-    wide-requires-5
-    mul-result-4
-    add-result-4
-    shared-slice-read-wide-6
-    wide-requires-6
-    mul-result-5
-    add-result-5
-    shared-slice-read-wide-7
-    wide-requires-7
-    mul-result-6
-    add-result-6
-    shared-slice-read-wide-8
-    wide-requires-8
-    mul-result-7
-    add-result-7
     returns)

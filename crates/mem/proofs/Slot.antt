@@ -8,7 +8,8 @@ use lib.Seq.{drop-drop}
 use lib.Dec.{lit<, lit≤}
 use Rattle.failure.specs.Outcome.{Outcome, Refused, Answer}
 use Rattle.failure.specs.Failure.{OutsideMemory}
-use Rattle.mem.specs.Memory.{Memory, lent, bytesOf}
+use Rattle.mem.specs.Memory.{Memory, Lent, lent, bytesOf}
+use Rattle.mem.specs.Opening.{bounded, apart, opens}
 use Rattle.mem.specs.Place.{Spot, holds, placeOf, bytesAt}
 use Rattle.mem.specs.Word.{littleEndian, load}
 use Rattle.mem.specs.Slot.{on, wordAt, ByWords, SlotByWords, ByLoads, SlotByLoads}
@@ -81,3 +82,16 @@ not-of-every-memory every =
     let q : Answer 1 ≡ Answer (b .low) = b .first in
     let one : b .low ≡ 1 = cc in
     omega (arith, b .sum)
+
+-- slices that touch, and so are accepted
+abbrev pub touching : Lent
+touching = lent (1 ∷ 2 ∷ 3 ∷ 4 ∷ 5 ∷ 6 ∷ 7 ∷ 8 ∷ []) 8 (9 ∷ 10 ∷ 11 ∷ 12 ∷ 13 ∷ 14 ∷ 15 ∷ 16 ∷ []) 16
+
+-- the law met: a slot of the section, and one of the stack
+pub in-section : ByLoads (touching .regions) 8 0x0807060504030201
+unfolding opens bounded apart load bytesAt holds
+in-section = by-loads touching refl 8 0x0807060504030201 refl
+
+pub in-stack : ByLoads (touching .regions) 16 0x100f0e0d0c0b0a09
+unfolding opens bounded apart load bytesAt holds
+in-stack = by-loads touching refl 16 0x100f0e0d0c0b0a09 refl

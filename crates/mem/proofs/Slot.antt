@@ -83,7 +83,7 @@ not-of-every-memory every =
     let one : b .low ≡ 1 = cc in
     omega (arith, b .sum)
 
--- slices that touch, and so are accepted
+-- slices that touch, and are accepted
 abbrev pub touching : Lent
 touching = lent (1 ∷ 2 ∷ 3 ∷ 4 ∷ 5 ∷ 6 ∷ 7 ∷ 8 ∷ []) 8 (9 ∷ 10 ∷ 11 ∷ 12 ∷ 13 ∷ 14 ∷ 15 ∷ 16 ∷ []) 16
 
@@ -95,3 +95,10 @@ in-section = by-loads touching refl 8 0x0807060504030201 refl
 pub in-stack : ByLoads (touching .regions) 16 0x100f0e0d0c0b0a09
 unfolding opens bounded apart load bytesAt holds
 in-stack = by-loads touching refl 16 0x100f0e0d0c0b0a09 refl
+
+-- a slot across the two is refused, though each of its words can be loaded: they are not from one slice
+pub across :
+    (load (touching .regions) 4 12 ≡ Answer 0x08070605) × (load (touching .regions) 4 16 ≡ Answer 0x0c0b0a09) ×
+    (load (touching .regions) 8 12 ≡ Refused OutsideMemory)
+unfolding load bytesAt holds
+across = (refl, refl, refl)

@@ -1,4 +1,4 @@
--- Laws of `bounded`, `apart` and `opens`. Assumes nothing.
+-- What follows from an accepted opening: laws of `bounded`, `apart`, `accepted` and `opens`. Assumes nothing.
 use mathlib.Core.Path.{_≡_, refl, sym, _∙_, ap}
 use mathlib.Core.Bool.{Bool, true, false, _&&_, _||_}
 use mathlib.Core.List.{[], _∷_}
@@ -8,14 +8,12 @@ use native.Mathlib.Nat.{add-zero}
 use native.Mathlib.Omega.{arith}
 use lib.Dec.{eqb, leb}
 use borrow.Author.Tests.{eqb-true, leb-true}
-use Rattle.failure.specs.Outcome.{Refused, Answer}
-use Rattle.failure.specs.Failure.{OutsideMemory}
+use Rattle.failure.specs.Outcome.{Answer}
 use Rattle.mem.specs.Memory.{Region, Memory, Lent, size}
 use Rattle.mem.specs.Opening.{bounded, apart, apartFrom, accepted, opens}
-use Rattle.mem.specs.Place.{Spot, holds, placeFrom, placeOf}
-use Rattle.mem.specs.Slot.{on}
+use Rattle.mem.specs.Place.{Spot, on, holds, placeFrom, placeOf}
 use Rattle.mem.proofs.Tests.{both, either}
-use Rattle.mem.proofs.Place.{holds-range, holds-when}
+use Rattle.mem.proofs.Place.{holds-range, holds-when, no-place}
 
 -- a base address is 1 to 2^62, a length 0 to 2^31
 pub bounded-range : (base size : ℕ) → bounded base size ≡ true → (1 ≤ base) × (base ≤ 2 ^ 62) × (size ≤ 2 ^ 31)
@@ -63,10 +61,6 @@ accepted-parts r m e =
     let (front, rest) = both (bounded (r .base) (size r) && apartFrom r m) (accepted m) e in
     let (bounds, away) = both (bounded (r .base) (size r)) (apartFrom r m) front in
     (bounds, away, rest)
-
--- an answer is no refusal
-no-place : (A : Type 0) (s : Spot) → Refused OutsideMemory ≡ Answer s → A
-no-place A s e = let z : _≡_ {A = ℕ} 0 1 = cc in absurd (omega arith)
 
 module _ (a n : ℕ) (s : Spot) where
   -- of bytes that a later region holds, a region that is apart from all of them holds none

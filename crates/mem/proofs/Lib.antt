@@ -2,9 +2,10 @@
 pub mod Tests
 pub mod Place
 pub mod Accepted
-pub mod Slot
 pub mod Part
 pub mod Word
 pub mod Loaded
 pub mod Bytes
+pub mod Slot
+pub mod OfWords
 pub mod Sums

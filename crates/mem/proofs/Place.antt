@@ -1,8 +1,8 @@
 -- Laws of `holds`, `placeOf` and `bytesAt`. Assumes nothing.
-use mathlib.Core.Path.{_≡_, refl, _∙_, ap, subst}
+use mathlib.Core.Path.{_≡_, refl, sym, _∙_, ap, subst}
 use mathlib.Core.Bool.{Bool, true, false}
 use mathlib.Core.List.{[], _∷_}
-use Prim.Native.Nat.{ℕ, suc, _+_, _-_, _≤_}
+use Prim.Native.Nat.{ℕ, suc, _+_, _-_, _≤_, _<_}
 use native.Mathlib.Omega.{arith}
 use lib.Dec.{leb}
 use lib.ListN.{length, take, drop}
@@ -10,7 +10,7 @@ use borrow.Author.Tests.{leb-true, le-leb}
 use Rattle.failure.specs.Outcome.{Outcome, Refused, Answer}
 use Rattle.failure.specs.Failure.{OutsideMemory}
 use Rattle.mem.specs.Memory.{Memory, size, bytesOf}
-use Rattle.mem.specs.Place.{Spot, holds, placeFrom, placeOf, bytesAt}
+use Rattle.mem.specs.Place.{Spot, on, holds, placeFrom, placeOf, bytesAt}
 use Rattle.mem.proofs.Tests.{both}
 
 -- what a range of addresses that holds n bytes at a comes to
@@ -25,6 +25,10 @@ pub holds-when : (base size a n : ℕ) → base ≤ a → a + n ≤ base + size 
 unfolding holds
 holds-when base size a n l r = simp (le-leb base a l, le-leb (a + n) (base + size) r)
 
+-- an answer is no refusal
+pub no-place : (A : Type 0) (s : Spot) → Refused OutsideMemory ≡ Answer s → A
+no-place A s e = let z : _≡_ {A = ℕ} 0 1 = cc in absurd (omega arith)
+
 -- the n bytes at a stand at the spot s: region j of m, which is counted from i
 record Found (i : ℕ) (m : Memory) (a n : ℕ) (s : Spot) : Type 0 where
   pub j : ℕ
@@ -34,10 +38,7 @@ record Found (i : ℕ) (m : Memory) (a n : ℕ) (s : Spot) : Type 0 where
 
 found : (i : ℕ) (m : Memory) (a n : ℕ) (s : Spot) → placeFrom i m a n ≡ Answer s → Found i m a n s
 unfolding bytesAt
-found i [] a n s e = absurd (clash e)
-  where
-    clash : Refused OutsideMemory ≡ Answer s → ⊥
-    clash p = let z : _≡_ {A = ℕ} 0 1 = cc in omega arith
+found i [] a n s e = no-place (Found i [] a n s) s e
 found i (r ∷ m) a n s e = go (λ p. found (suc i) m a n s p) (holds (r .base) (size r) a n) refl
   where
     here : holds (r .base) (size r) a n ≡ true → Found i (r ∷ m) a n s
@@ -87,3 +88,39 @@ none i (r ∷ m) a n x e = go (λ p. none (suc i) m a n x p) (holds (r .base) (s
 pub place-none : (m : Memory) (a n x : ℕ) → placeOf m a n ≡ Refused x → bytesAt m a n ≡ Refused OutsideMemory
 unfolding placeOf
 place-none m a n x e = none 0 m a n x e
+
+-- where bytes are found, and those right after them in the same region, they are found as one
+module _ (a n w : ℕ) (s : Spot) where
+  -- the first bytes of those that a range holds it holds too
+  front : (base size : ℕ) → holds base size a n ≡ false → (t : Bool) → holds base size a (n + w) ≡ t → t ≡ false
+  front base size h true g =
+      let (low, high) = holds-range base size a (n + w) g in
+      sym (holds-when base size a n low (omega arith)) ∙ h
+  front base size h false g = refl
+
+  joined : (i : ℕ) (m : Memory) → placeFrom i m a n ≡ Answer s → placeFrom i m (a + n) w ≡ Answer (on n s) → placeFrom i m a (n + w) ≡ Answer s
+  joined i [] e f = no-place (placeFrom i [] a (n + w) ≡ Answer s) s e
+  joined i (r ∷ m) e f =
+      go (holds (r .base) (size r) a n) refl (holds (r .base) (size r) (a + n) w) refl (λ p q. joined (suc i) m p q)
+    where
+      -- the region's own number, and those of later ones
+      own : (k : ℕ) (t : Spot) → Answer (record { region = i; offset = k }) ≡ Answer t → i ≡ t .region
+      own k t p = cc
+
+      later : (b k : ℕ) (t : Spot) → placeFrom (suc i) m b k ≡ Answer t → i < t .region
+      later b k t p = let there = found (suc i) m b k t p in omega (arith, there .region)
+
+      go : (t : Bool) → holds (r .base) (size r) a n ≡ t → (u : Bool) → holds (r .base) (size r) (a + n) w ≡ u →
+          (placeFrom (suc i) m a n ≡ Answer s → placeFrom (suc i) m (a + n) w ≡ Answer (on n s) → placeFrom (suc i) m a (n + w) ≡ Answer s) →
+          placeFrom i (r ∷ m) a (n + w) ≡ Answer s
+      go true h true g rest =
+          let (low, _) = holds-range (r .base) (size r) a n h in
+          let (_, high) = holds-range (r .base) (size r) (a + n) w g in
+          rw (holds-when (r .base) (size r) a (n + w) low (omega arith)) (rw h at e)
+      go true h false g rest = absurd (omega (arith, own (a - r .base) s (rw h at e), later (a + n) w (on n s) (rw g at f)))
+      go false h true g rest = absurd (omega (arith, own (a + n - r .base) (on n s) (rw g at f), later a n s (rw h at e)))
+      go false h false g rest = rw (front (r .base) (size r) h (holds (r .base) (size r) a (n + w)) refl) (rest (rw h at e) (rw g at f))
+
+pub place-joined : (m : Memory) (a n w : ℕ) (s : Spot) → placeOf m a n ≡ Answer s → placeOf m (a + n) w ≡ Answer (on n s) → placeOf m a (n + w) ≡ Answer s
+unfolding placeOf
+place-joined m a n w s e f = joined a n w s 0 m e f

@@ -20,6 +20,10 @@ pub record Spot : Type 0 where
   pub region : ℕ
   pub offset : ℕ
 
+-- so many bytes on, in the same region
+abbrev pub on : ℕ → Spot → Spot
+on n s = record { region = s .region; offset = s .offset + n }
+
 -- the first region from number i on that holds the n bytes at a, or 27
 abbrev pub placeFrom : ℕ → Memory → ℕ → ℕ → Outcome Spot
 placeFrom i [] a n = Refused OutsideMemory

@@ -3,7 +3,7 @@ use mathlib.Core.List.{List, [], _∷_}
 use mathlib.Core.Path.{_≡_}
 use Prim.Native.Nat.{ℕ, _+_, _*_, _^_, _<_}
 use lib.Dec.{eqb}
-use lib.ListN.{length}
+use lib.ListN.{length, take, drop}
 use Rattle.failure.specs.Choice.{if_then_else_}
 use Rattle.failure.specs.Outcome.{Outcome, Refused, Answer, _>>=_}
 use Rattle.failure.specs.Failure.{OutsideMemory}
@@ -16,6 +16,10 @@ use Rattle.mem.specs.declared.load.Word.the-variants.{Value, Outside}
 abbrev pub littleEndian : List ℕ → ℕ
 littleEndian [] = 0
 littleEndian (b ∷ bs) = b + 256 * littleEndian bs
+
+-- the 32-bit word at offset k of the bytes
+abbrev pub wordAt : List ℕ → ℕ → ℕ
+wordAt bytes k = littleEndian (take 4 (drop k bytes))
 
 -- the number in the n bytes at address a, or 27
 unfoldable pub load : Memory → ℕ → ℕ → Outcome ℕ

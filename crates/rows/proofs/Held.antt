@@ -15,12 +15,12 @@ use Rattle.failure.specs.Choice.{if_then_else_}
 use Rattle.failure.specs.Outcome.{Outcome, Answer}
 use Rattle.mem.specs.Memory.{Memory}
 use Rattle.mem.specs.Place.{bytesAt}
-use Rattle.mem.specs.Word.{littleEndian, load}
+use Rattle.mem.specs.Word.{littleEndian, wordAt, load}
 use Rattle.mem.specs.Wrapping.{sum}
 use Rattle.mem.proofs.Place.{holds-when}
 use Rattle.rows.specs.Row.{Found, None}
 use Rattle.rows.specs.Handler.{Entry, row, entryAt, leftBreaks, rightBreaks, judged, handler}
-use Rattle.rows.specs.Held.{wordAt, alone, Whole, Held, number, RowAt, judgedAt}
+use Rattle.rows.specs.Held.{alone, Whole, Held, number, RowAt, judgedAt}
 use Rattle.rows.proofs.Entries.{entry-whole, left-none, left-seen, right-none, right-seen}
 use Rattle.rows.proofs.Section.{handler-same}
 use Rattle.rows.proofs.Halving.{Left, begin, over, turn-found, turn-above, turn-below}

@@ -2,16 +2,12 @@
 use mathlib.Core.Path.{_≡_}
 use mathlib.Core.List.{List, [], _∷_}
 use Prim.Native.Nat.{ℕ, _+_, _-_, _*_, _/_, _^_, _≤_, _<_}
-use lib.ListN.{length, take, drop}
+use lib.ListN.{length}
 use Rattle.failure.specs.Outcome.{Outcome, Answer, _>>=_}
 use Rattle.mem.specs.Memory.{Memory}
-use Rattle.mem.specs.Word.{littleEndian, load}
+use Rattle.mem.specs.Word.{wordAt, load}
 use Rattle.rows.specs.Row.{Found}
 use Rattle.rows.specs.Handler.{entryAt, judged}
-
--- the word at offset k
-abbrev pub wordAt : List ℕ → ℕ → ℕ
-wordAt section k = littleEndian (take 4 (drop k section))
 
 -- the section, and the rest of what is lent
 abbrev pub first : List ℕ → ℕ → Memory → Memory

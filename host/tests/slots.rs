@@ -28,8 +28,9 @@ const LENT: [((usize, usize), (usize, usize)); 9] = [
     ((0x1000, 32), (0x1020, 0)),
 ];
 
-fn bytes(pattern: &[u8], length: usize) -> Vec<u8> {
-    pattern.iter().copied().cycle().take(length).collect()
+/// So many bytes of a pattern; each slice turns other bits of them, so that no two slices are alike.
+fn bytes(pattern: &[u8], bits: u8, length: usize) -> Vec<u8> {
+    pattern.iter().map(|byte| byte ^ bits).cycle().take(length).collect()
 }
 
 fn word(bytes: &[u8]) -> usize {
@@ -51,10 +52,10 @@ fn regs(arch: Arch, sp: usize) -> Regs {
     Regs { r: std::array::from_fn(|i| 100 + i) }.set_sp(arch, sp).unwrap()
 }
 
-/// What each memory and each sp in and around it gives to a test.
+/// Calls a test with each memory and each sp in and around it.
 fn each(test: impl Fn(Memory, usize)) {
     for (pattern, ((section_base, section), (stack_base, stack))) in PATTERNS.into_iter().flat_map(|p| LENT.map(|lent| (p, lent))) {
-        let (section, stack) = (bytes(pattern, section), bytes(pattern, stack));
+        let (section, stack) = (bytes(pattern, 0x5a, section), bytes(pattern, 0, stack));
         let memory = Memory { section: &section, section_base, stack: &stack, stack_base };
         (0xff0..0x1038).for_each(|sp| test(memory, sp));
     }

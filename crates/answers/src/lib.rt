@@ -17,6 +17,7 @@ use failure::BAD_EKO_HEADER;
 use failure::BAD_EKO_RECORD;
 use failure::BAD_OPENING;
 use failure::EKO_UNSORTED;
+use failure::TOO_MANY_SAVED;
 use lookup::Lookup;
 use lookup::Record;
 use model::Unwinding;
@@ -245,7 +246,7 @@ fn change_status(s: state::Status) -> u32
     match s {
         state::Status::Done => ANSWERED,
         state::Status::OutOfRange => BAD_EKO_RECORD,
-        state::Status::Full => BAD_EKO_RECORD,
+        state::Status::Full => TOO_MANY_SAVED,
         state::Status::BadOpening => BAD_OPENING,
     }
 }

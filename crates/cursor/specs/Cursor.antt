@@ -3,7 +3,7 @@
 use mathlib.Core.Bool.{Bool, true, false}
 use Prim.Native.Nat.{ℕ, _+_}
 use Rattle.failure.specs.Outcome.{Outcome, Refused, Answer, _>>=_}
-use Rattle.failure.specs.Failure.{BadEkoRecord, OutsideMemory}
+use Rattle.failure.specs.Failure.{OutsideMemory, EkoTruncated, BadUleb}
 use Rattle.mem.specs.Memory.{Memory}
 use Rattle.leb.specs.Reader.{byteAt, ulebAt, readByte, readNumber}
 use Rattle.leb.specs.declared.Byte.{Byte}
@@ -36,7 +36,7 @@ movedByteOf pos b = record { byte = b; pos = placeAfterByte pos b; moved = moves
 abbrev pub byteHere : Memory → Bytes → Byte
 byteHere m c = byteAt m (c .end) (c .pos)
 
--- document 01's outcome of it
+-- the papers' outcome of it
 abbrev pub readByteHere : Memory → Bytes → Outcome ℕ
 readByteHere m c = readByte m (c .end) (c .pos)
 
@@ -51,11 +51,11 @@ valueOf uleb.Limit = value.Limit
 valueOf uleb.TooLarge = value.TooLarge
 valueOf uleb.Outside = value.Outside
 
--- document 01's number and value for each case of a Value: the limit met and a number too long or too large are both 18
+-- the papers' number and value for each case of a Value: the limit met is 30, a number too long or too large 31
 abbrev pub numberedValue : Value → Outcome ℕ
 numberedValue (value.Is v) = Answer v
-numberedValue value.Limit = Refused BadEkoRecord
-numberedValue value.TooLarge = Refused BadEkoRecord
+numberedValue value.Limit = Refused EkoTruncated
+numberedValue value.TooLarge = Refused BadUleb
 numberedValue value.Outside = Refused OutsideMemory
 
 -- a number with the place after it
@@ -87,7 +87,7 @@ movedOf pos u = record { value = valueOf u; pos = placeAfter pos u; moved = move
 abbrev pub ulebHere : Memory → Bytes → Uleb
 ulebHere m c = ulebAt m (c .end) (c .pos)
 
--- document 01's outcome of it, without the place after it
+-- the papers' outcome of it, without the place after it
 abbrev pub readHere : Memory → Bytes → Outcome ℕ
 readHere m c = readNumber m (c .end) (c .pos) >>= λ x. Answer (x .value)
 

@@ -1,5 +1,5 @@
--- The numbers with which a call is turned back, and who causes each (document 01, "Turned back, by who causes it").
--- The names are ps-unwind's; it has none for 27, 28 and 29.
+-- The numbers with which a call is turned back, and who causes each (document 01, "Turned back, by who causes it", and document 02,
+-- request by request). The names are ps-unwind's; it has none from 27 on.
 use mathlib.Core.Bool.{Bool, false, _||_}
 use mathlib.Core.List.{List, [], _∷_}
 use Prim.Native.Nat.{ℕ}
@@ -22,7 +22,7 @@ BadCfaRule = 12
 abbrev pub BadEkoHeader : ℕ
 BadEkoHeader = 17
 
--- a record, frame word, state program, number or row breaks its rules, or a byte is at or past the limit
+-- a record, frame word, state program or row breaks its rules, where no other number says how
 abbrev pub BadEkoRecord : ℕ
 BadEkoRecord = 18
 
@@ -62,6 +62,18 @@ BadOpening = 28
 abbrev pub TooManyFrames : ℕ
 TooManyFrames = 29
 
+-- the limit is met before a byte that a program or a row table needs (document 02 (c))
+abbrev pub EkoTruncated : ℕ
+EkoTruncated = 30
+
+-- a uleb has no end in five bytes or is above 4294967295 (document 02 (c))
+abbrev pub BadUleb : ℕ
+BadUleb = 31
+
+-- a 33rd register is saved (document 02 (c))
+abbrev pub TooManySaved : ℕ
+TooManySaved = 32
+
 -- n is one of the numbers
 abbrev pub oneOf : ℕ → List ℕ → Bool
 oneOf n [] = false
@@ -73,7 +85,9 @@ host = BadOpening ∷ OutsideMemory ∷ TooManyFrames ∷ HandlerFrameMissed ∷
 
 -- caused by the table maker
 abbrev pub tableMaker : List ℕ
-tableMaker = RememberStackOverflow ∷ UnknownRegister ∷ BadEkoHeader ∷ BadEkoRecord ∷ EkoUnsorted ∷ EkoAmbiguousCallSite ∷ []
+tableMaker =
+    RememberStackOverflow ∷ UnknownRegister ∷ BadEkoHeader ∷ BadEkoRecord ∷ EkoUnsorted ∷ EkoAmbiguousCallSite ∷ EkoTruncated ∷ BadUleb ∷
+    TooManySaved ∷ []
 
 -- caused by the running job's registers
 abbrev pub registers : List ℕ

@@ -1,5 +1,5 @@
-// The numbers with which a call is turned back (document 01, "Turned back, by who causes it"). The names are ps-unwind's; it has
-// none for 27, 28 and 29. specs/Failure.antt has the same numbers for the contracts, and who causes each.
+// The numbers with which a call is turned back (document 01, "Turned back, by who causes it", and document 02, request by request).
+// The names are ps-unwind's; it has none from 27 on. specs/Failure.antt has the same numbers for the contracts, and who causes each.
 
 // A fifth remember in a state program.
 pub const REMEMBER_STACK_OVERFLOW: u32 = 10;
@@ -13,7 +13,7 @@ pub const BAD_CFA_RULE: u32 = 12;
 // A fault in a chunk's header, its size or its end; a magic of 0 is none.
 pub const BAD_EKO_HEADER: u32 = 17;
 
-// A record, frame word, state program, number or row breaks its rules, or a byte is at or past the limit.
+// A record, frame word, state program or row breaks its rules, where no other number says how.
 pub const BAD_EKO_RECORD: u32 = 18;
 
 // The left neighbour of the record found ends above its start, or the right one starts below its end.
@@ -42,3 +42,12 @@ pub const BAD_OPENING: u32 = 28;
 
 // 1,024 frames were given, and the walk goes on.
 pub const TOO_MANY_FRAMES: u32 = 29;
+
+// The limit is met before a byte that a program or a row table needs (document 02 (c)).
+pub const EKO_TRUNCATED: u32 = 30;
+
+// A uleb has no end in five bytes or is above 4294967295 (document 02 (c)).
+pub const BAD_ULEB: u32 = 31;
+
+// A 33rd register is saved (document 02 (c)).
+pub const TOO_MANY_SAVED: u32 = 32;

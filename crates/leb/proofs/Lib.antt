@@ -5,3 +5,4 @@ pub mod Meaning
 pub mod Numbers
 pub mod Told
 pub mod Section
+pub mod Faults

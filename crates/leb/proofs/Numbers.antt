@@ -7,7 +7,7 @@ use lib.Dec.{ltb}
 use borrow.Author.Tests.{ltb-true}
 use Rattle.failure.specs.Choice.{if_then_else_}
 use Rattle.failure.specs.Outcome.{Outcome, Refused, Answer}
-use Rattle.failure.specs.Failure.{BadEkoRecord, OutsideMemory}
+use Rattle.failure.specs.Failure.{OutsideMemory, EkoTruncated, BadUleb}
 use Rattle.mem.specs.Memory.{Memory}
 use Rattle.leb.specs.declared.Byte.{Byte}
 use Rattle.leb.specs.declared.Byte.the-variants as byte
@@ -63,10 +63,10 @@ module _ (m : Memory) (limit : ℕ) where
           let value : v ≡ r .value = cc in
           let after : next ≡ r .next = cc in
           record { value = omega (arith, ltb-true v (2 ^ 32) h); next = omega arith }
-      within v next false h l e = refused BadEkoRecord e
+      within v next false h l e = refused BadUleb e
 
       go : (u : Uleb) → ulebIn 5 m limit pos ≡ u → numbered (atMost32Bits u) ≡ Answer r → Small pos r
       go (Is v next) p e = within v next (ltb v (2 ^ 32)) refl (moves-on 5 pos v next p) e
-      go Limit p e = refused BadEkoRecord e
-      go TooLarge p e = refused BadEkoRecord e
+      go Limit p e = refused EkoTruncated e
+      go TooLarge p e = refused BadUleb e
       go Outside p e = refused OutsideMemory e

@@ -1,11 +1,11 @@
--- Document 01's outcome of a byte and of a number is what the reader's cases fold to. Assumes nothing.
+-- The papers' outcome of a byte and of a number is what the reader's cases come to. Assumes nothing.
 use mathlib.Core.Path.{_≡_, refl, sym, _∙_, ap}
 use mathlib.Core.Bool.{Bool, true, false}
 use Prim.Native.Nat.{ℕ, zero, suc, _+_, _-_, _*_, _^_}
 use lib.Dec.{leb, ltb}
 use Rattle.failure.specs.Choice.{if_then_else_}
 use Rattle.failure.specs.Outcome.{Outcome, Refused, Answer, _>>=_}
-use Rattle.failure.specs.Failure.{BadEkoRecord, OutsideMemory}
+use Rattle.failure.specs.Failure.{OutsideMemory, EkoTruncated, BadUleb}
 use Rattle.mem.specs.Memory.{Memory}
 use Rattle.mem.specs.Word.{load}
 use Rattle.mem.proofs.Bytes.{load-refused}
@@ -25,7 +25,7 @@ module _ (m : Memory) (limit : ℕ) where
       loaded (Refused n) e = sym (load-refused m 1 pos n e)
       loaded (Answer b) e = sym e
 
-      go : (t : Bool) → numberedByte (if t then byte.Limit else asByte (load m 1 pos)) ≡ (if t then Refused BadEkoRecord else load m 1 pos)
+      go : (t : Bool) → numberedByte (if t then byte.Limit else asByte (load m 1 pos)) ≡ (if t then Refused EkoTruncated else load m 1 pos)
       go true = refl
       go false = loaded (load m 1 pos) refl
 
@@ -64,14 +64,14 @@ module _ (m : Memory) (limit : ℕ) where
   uleb-told pos = bounded (ulebIn 5 m limit pos) ∙ ap (λ (o : Outcome Read). o >>= short) (in-told 5 pos)
     where
       short : Read → Outcome Read
-      short x = if ltb (x .value) (2 ^ 32) then Answer x else Refused BadEkoRecord
+      short x = if ltb (x .value) (2 ^ 32) then Answer x else Refused BadUleb
 
       bounded : (u : Uleb) → numbered (atMost32Bits u) ≡ (numbered u >>= short)
       bounded (Is v next) = go (ltb v (2 ^ 32))
         where
           go : (t : Bool) →
               numbered (if t then Is v next else TooLarge)
-              ≡ (if t then Answer (record { value = v; next = next }) else Refused BadEkoRecord)
+              ≡ (if t then Answer (record { value = v; next = next }) else Refused BadUleb)
           go true = refl
           go false = refl
       bounded Limit = refl

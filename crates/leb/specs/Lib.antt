@@ -2,3 +2,4 @@
 pub mod Encoding
 pub mod Reader
 pub mod Meaning
+pub mod Faults

@@ -1,11 +1,11 @@
--- The number reader (document 01, "The state program": "Uleb: DWARF's, padding allowed, at most 5 bytes, at most 2^32 - 1").
--- It answers finer than 18: `numbered` folds a number's two faults to 18, and `numberedByte` a byte's. What comes of that is document
--- 01's outcome, `readByte` and `readNumber`.
+-- The number reader (document 01, "The state program": "Uleb: DWARF's, padding allowed, at most 5 bytes, at most 2^32 - 1"). Its faults
+-- have the numbers of document 02 (c): 30 for the limit, 31 for the number (`numbered`, `numberedByte`). What comes of that is the
+-- papers' outcome, `readByte` and `readNumber`.
 use Prim.Native.Nat.{ℕ, zero, suc, _+_, _-_, _*_, _^_}
 use lib.Dec.{leb, ltb}
 use Rattle.failure.specs.Choice.{if_then_else_}
 use Rattle.failure.specs.Outcome.{Outcome, Refused, Answer, _>>=_}
-use Rattle.failure.specs.Failure.{BadEkoRecord, OutsideMemory, BadOpening}
+use Rattle.failure.specs.Failure.{OutsideMemory, BadOpening, EkoTruncated, BadUleb}
 use Rattle.mem.specs.Memory.{Memory, Lent}
 use Rattle.mem.specs.Opening.{opens}
 use Rattle.mem.specs.Word.{load}
@@ -59,27 +59,27 @@ pub record Read : Type 0 where
   pub value : ℕ
   pub next : ℕ
 
--- document 01's number and values for each case of a Uleb: the limit met and a number too long or too large are both 18
+-- the papers' number and values for each case of a Uleb: the limit met is 30, a number too long or too large 31
 abbrev pub numbered : Uleb → Outcome Read
 numbered (variant.Is v next) = Answer (record { value = v; next = next })
-numbered variant.Limit = Refused BadEkoRecord
-numbered variant.TooLarge = Refused BadEkoRecord
+numbered variant.Limit = Refused EkoTruncated
+numbered variant.TooLarge = Refused BadUleb
 numbered variant.Outside = Refused OutsideMemory
 
--- document 01's number and value for each case of a Byte: the limit met is 18
+-- the papers' number and value for each case of a Byte: the limit met is 30
 abbrev pub numberedByte : Byte → Outcome ℕ
 numberedByte (byte.Is b) = Answer b
-numberedByte byte.Limit = Refused BadEkoRecord
+numberedByte byte.Limit = Refused EkoTruncated
 numberedByte byte.Outside = Refused OutsideMemory
 
--- document 01's number and values for each case of a Number
+-- the papers' number and values for each case of a Number
 abbrev pub told : Number → Outcome Read
 told (number.Is v next) = Answer (record { value = v; next = next })
 told (number.Refused n) = Refused n
 
--- document 01's outcome of the byte at pos: 18 at or past the limit, else what memory has there, or 27
+-- the papers' outcome of the byte at pos: 30 at or past the limit, else what memory has there, or 27
 unfoldable pub readByte : Memory → ℕ → ℕ → Outcome ℕ
-readByte m limit pos = if leb limit pos then Refused BadEkoRecord else load m 1 pos
+readByte m limit pos = if leb limit pos then Refused EkoTruncated else load m 1 pos
 
 -- of a number whose first byte, at pos, is b, by that of what stands after it
 abbrev pub readFrom : ℕ → ℕ → Outcome Read → Outcome Read
@@ -87,16 +87,16 @@ readFrom pos b rest =
     if ltb b 128 then Answer (record { value = b; next = pos + 1 })
     else rest >>= λ x. Answer (record { value = b - 128 + 128 * x .value; next = x .next })
 
--- of the number at pos, in at most so many bytes: 18 where they have no end
+-- of the number at pos, in at most so many bytes: 31 where they have no end
 abbrev pub readIn : ℕ → Memory → ℕ → ℕ → Outcome Read
-readIn zero m limit pos = Refused BadEkoRecord
+readIn zero m limit pos = Refused BadUleb
 readIn (suc k) m limit pos = readByte m limit pos >>= λ b. readFrom pos b (readIn k m limit (pos + 1))
 
--- of the number at pos: at most 5 bytes, at most 2^32 - 1, else 18
+-- of the number at pos: at most 5 bytes, at most 2^32 - 1, else 31
 unfoldable pub readNumber : Memory → ℕ → ℕ → Outcome Read
 readNumber m limit pos = do
   x ← readIn 5 m limit pos
-  if ltb (x .value) (2 ^ 32) then Answer x else Refused BadEkoRecord
+  if ltb (x .value) (2 ^ 32) then Answer x else Refused BadUleb
 
 -- the number at pos in what is lent: 28 first
 unfoldable pub readUleb : Lent → ℕ → ℕ → Outcome Read

@@ -4,8 +4,9 @@ ghost use mathlib.Core.Path.{_≡_};
 ghost use Prim.Native.Nat.{_+_, _*_, _%_, _<_, _≤_};
 ghost use Rattle.mem.specs.Memory.{lent};
 ghost use Rattle.leb.specs.Reader as Reader;
-use failure::BAD_EKO_RECORD;
 use failure::BAD_OPENING;
+use failure::BAD_ULEB;
+use failure::EKO_TRUNCATED;
 use failure::OUTSIDE_MEMORY;
 use mem::load;
 use mem::load::Word;
@@ -113,14 +114,14 @@ pub fn uleb_at<'a>(
     Uleb::TooLarge
 }
 
-// A number as document 01 answers it: the limit met and a number too long or too large are both 18.
-pub fn folded(u: Uleb) -> Number
+// A number as the papers answer it: the limit met is 30, a number too long or too large 31.
+pub fn number_of(u: Uleb) -> Number
     ensures { λ r. ⌜ Reader.told r ≡ Reader.numbered u ⌝ }
 {
     match u {
         Uleb::Is(v, next) => Number::Is(v, next),
-        Uleb::Limit => Number::Refused(BAD_EKO_RECORD),
-        Uleb::TooLarge => Number::Refused(BAD_EKO_RECORD),
+        Uleb::Limit => Number::Refused(EKO_TRUNCATED),
+        Uleb::TooLarge => Number::Refused(BAD_ULEB),
         Uleb::Outside => Number::Refused(OUTSIDE_MEMORY),
     }
 }
@@ -142,5 +143,5 @@ pub fn read_uleb<'a>(
     if !opening::opens(section, section_base, stack, stack_base) {
         return Number::Refused(BAD_OPENING);
     }
-    folded(uleb_at(section, section_base, stack, stack_base, pos, limit))
+    number_of(uleb_at(section, section_base, stack, stack_base, pos, limit))
 }

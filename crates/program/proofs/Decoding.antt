@@ -4,7 +4,7 @@ use Prim.Native.Nat.{ℕ, _+_, _^_, _≤_, _<_}
 use native.Mathlib.Omega.{arith}
 use borrow.Author.Tests.{lt-ltb}
 use Rattle.failure.specs.Outcome.{Outcome, Refused, Answer, _>>=_}
-use Rattle.failure.specs.Failure.{BadEkoRecord}
+use Rattle.failure.specs.Failure.{BadEkoRecord, EkoTruncated}
 use Rattle.mem.specs.Memory.{Memory}
 use Rattle.leb.specs.declared.Byte.{Byte}
 use Rattle.leb.specs.declared.Byte.the-variants as byte
@@ -79,7 +79,7 @@ module _ (m : Memory) (limit pos : ℕ) where
   decode-refused b x e p = rw (sym e, p)
 
   -- at or past the limit
-  pub decode-limit : limit ≤ pos → decode m limit pos ≡ Refused BadEkoRecord
+  pub decode-limit : limit ≤ pos → decode m limit pos ≡ Refused EkoTruncated
   unfolding decode
   decode-limit h = rw (sym (byte-limit m limit pos h))
 

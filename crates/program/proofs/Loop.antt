@@ -12,7 +12,7 @@ use lib.Seq.{getD-set-same, getD-set-other}
 use borrow.Author.Tests.{lt-ltb, le-ltb, eq-eqb, ne-eqb, ltb-true, ltb-false}
 use Rattle.failure.specs.Outcome as Outcome
 use Rattle.failure.specs.Outcome.{Outcome, Answer}
-use Rattle.failure.specs.Failure.{BadEkoRecord, RememberStackOverflow}
+use Rattle.failure.specs.Failure.{BadEkoRecord, RememberStackOverflow, EkoTruncated}
 use Rattle.mem.specs.Memory.{Memory}
 use Rattle.arch.specs.Arch.{Arch, numbers}
 use Rattle.arch.proofs.Arch.{of-both}
@@ -127,9 +127,9 @@ module _ (m : Memory) (a : Arch) (program limit off : ℕ) where
       where
         go : (left : ℕ) → limit ≤ left + pos → runFrom left m a limit off pos (standAt st states depth at) ≡ Outcome.Refused n
         go zero h =
-            let cut : _≡_ {A = Outcome Decoding} (Outcome.Refused n) (Outcome.Refused BadEkoRecord) =
+            let cut : _≡_ {A = Outcome Decoding} (Outcome.Refused n) (Outcome.Refused EkoTruncated) =
             e ∙ decode-limit m limit pos (omega arith) in
-            let same : BadEkoRecord ≡ n = cc in
+            let same : EkoTruncated ≡ n = cc in
             ap Outcome.Refused same
         go (suc k) h = rw (sym e)
 

@@ -1,4 +1,5 @@
--- A run is refused with 18, 10 or 27 and no other number; so 28, which a save gives for a state of more than 32 pairs, never comes.
+-- A run is refused with 10, 18, 27, 30, 31 or 32 and no other number; so 28, which a save gives for a state of more than 32 pairs, never
+-- comes.
 -- Assumes nothing.
 use mathlib.Core.Path.{_≡_, refl, subst}
 use mathlib.Core.Bool.{Bool, true, false}
@@ -10,7 +11,7 @@ use lib.ListN.{length}
 use Rattle.failure.specs.Choice.{if_then_else_}
 use Rattle.failure.specs.Outcome as Outcome
 use Rattle.failure.specs.Outcome.{Outcome, Answer, _>>=_}
-use Rattle.failure.specs.Failure.{RememberStackOverflow, BadEkoRecord, OutsideMemory}
+use Rattle.failure.specs.Failure.{RememberStackOverflow, BadEkoRecord, OutsideMemory, EkoTruncated, BadUleb, TooManySaved}
 use Rattle.mem.specs.Memory.{Memory}
 use Rattle.arch.specs.Arch.{Arch}
 use Rattle.leb.specs.declared.Byte.{Byte}
@@ -40,6 +41,9 @@ pub data Refusal : ℕ → Type 0 where
   bad-record : Refusal BadEkoRecord
   outside : Refusal OutsideMemory
   overflow : Refusal RememberStackOverflow
+  truncated : Refusal EkoTruncated
+  bad-uleb : Refusal BadUleb
+  too-many-saved : Refusal TooManySaved
 
 -- a refusal carried over
 carried : {A : Type 0} (x n : ℕ) → Refusal x → _≡_ {A = Outcome A} (Outcome.Refused x) (Outcome.Refused n) → Refusal n
@@ -49,8 +53,8 @@ carried x n r e =
 
 number-refused : (u : Uleb) (n : ℕ) → numbered u ≡ Outcome.Refused n → Refusal n
 number-refused (uleb.Is v next) n e = let z : _≡_ {A = ℕ} 0 1 = cc in absurd (omega arith)
-number-refused uleb.Limit n e = carried BadEkoRecord n bad-record e
-number-refused uleb.TooLarge n e = carried BadEkoRecord n bad-record e
+number-refused uleb.Limit n e = carried EkoTruncated n truncated e
+number-refused uleb.TooLarge n e = carried BadUleb n bad-uleb e
 number-refused uleb.Outside n e = carried OutsideMemory n outside e
 
 rest-refused : (m : Memory) (limit pos : ℕ) (f : Form) (n : ℕ) → restAt m limit pos f ≡ Outcome.Refused n → Refusal n
@@ -81,14 +85,14 @@ decode-refusal m limit pos n = go (byteAt m limit pos)
   where
     go : (b : Byte) → (numberedByte b >>= λ code. restAt m limit (pos + 1) (formOf code)) ≡ Outcome.Refused n → Refusal n
     go (byte.Is b) e = rest-refused m limit (pos + 1) (formOf b) n e
-    go byte.Limit e = carried BadEkoRecord n bad-record e
+    go byte.Limit e = carried EkoTruncated n truncated e
     go byte.Outside e = carried OutsideMemory n outside e
 
 -- a change of a proper state
 change-refused : (x : Change) → (x ≡ BadOpening → ⊥) → (n : ℕ) → changed x ≡ Outcome.Refused n → Refusal n
 change-refused (Done s) f n e = let z : _≡_ {A = ℕ} 0 1 = cc in absurd (omega arith)
 change-refused OutOfRange f n e = carried BadEkoRecord n bad-record e
-change-refused Full f n e = carried BadEkoRecord n bad-record e
+change-refused Full f n e = carried TooManySaved n too-many-saved e
 change-refused BadOpening f n e = absurd (f refl)
 
 frame-refused : (a : Arch) (st : State) → Proper st → (n : ℕ) → frameRegs a st ≡ Outcome.Refused n → Refusal n
@@ -156,7 +160,7 @@ act-bears a off next Recall s p = go (s .remembered)
 
 module _ (m : Memory) (a : Arch) (limit off n : ℕ) where
   refused-from : (left pos : ℕ) (s : Stand) → Stands s → runFrom left m a limit off pos s ≡ Outcome.Refused n → Refusal n
-  refused-from zero pos s p = λ e. carried BadEkoRecord n bad-record e
+  refused-from zero pos s p = λ e. carried EkoTruncated n truncated e
   refused-from (suc left) pos s p = opened (decode m limit pos) refl (λ q s′ l e. refused-from left q s′ l e)
     where
       turn : (next : ℕ) → ((s′ : Stand) → Stands s′ → runFrom left m a limit off next s′ ≡ Outcome.Refused n → Refusal n) →

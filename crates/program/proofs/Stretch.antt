@@ -12,7 +12,7 @@ use borrow.Author.Tests.{lt-ltb, le-ltb, ltb-true, ltb-false}
 use Rattle.failure.specs.Choice.{if_then_else_}
 use Rattle.failure.specs.Outcome as Outcome
 use Rattle.failure.specs.Outcome.{Outcome, Answer, _>>=_}
-use Rattle.failure.specs.Failure.{BadEkoRecord}
+use Rattle.failure.specs.Failure.{BadEkoRecord, EkoTruncated}
 use Rattle.mem.specs.Memory.{Memory}
 use Rattle.arch.specs.Arch.{Arch}
 use Rattle.state.specs.declared.State.{State}
@@ -53,7 +53,7 @@ stretched (Refused n) x f = Outcome.Refused n
 
 -- the stretch of a run from pos on
 abbrev pub stretchFrom : ℕ → Memory → Arch → ℕ → ℕ → ℕ → Stand → Outcome Stretch
-stretchFrom zero m a limit off pos s = Outcome.Refused BadEkoRecord
+stretchFrom zero m a limit off pos s = Outcome.Refused EkoTruncated
 stretchFrom (suc left) m a limit off pos s = do
   d ← decode m limit pos
   stretched (act a off (d .next) (d .op) s) (record { from = s .at; to = target a (d .op) s })

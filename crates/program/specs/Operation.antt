@@ -61,7 +61,7 @@ restAt m limit pos WithPair = do
   Answer (record { op = Set (rule.Save (reg .value) (slot .value)); next = slot .next })
 restAt m limit pos Unknown = Refused BadEkoRecord
 
--- the operation at pos: a byte at or past the limit gets 18, one outside memory 27
+-- the operation at pos: a byte at or past the limit gets 30, one outside memory 27
 unfoldable pub decode : Memory → ℕ → ℕ → Outcome Decoding
 decode m limit pos = do
   code ← numberedByte (byteAt m limit pos)

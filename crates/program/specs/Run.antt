@@ -6,7 +6,7 @@ use lib.ListN.{length}
 use Rattle.failure.specs.Choice.{if_then_else_}
 use Rattle.failure.specs.Outcome as Outcome
 use Rattle.failure.specs.Outcome.{Outcome, Answer, _>>=_}
-use Rattle.failure.specs.Failure.{BadEkoRecord, RememberStackOverflow}
+use Rattle.failure.specs.Failure.{BadEkoRecord, RememberStackOverflow, EkoTruncated}
 use Rattle.mem.specs.Memory.{Memory}
 use Rattle.arch.specs.Arch.{Arch}
 use Rattle.state.specs.declared.State.{State}
@@ -75,9 +75,9 @@ turned (Ends r) f = Answer r
 turned (Refused n) f = Outcome.Refused n
 
 -- the operations from pos on, with at most so many bytes left below the limit; each takes one at least, and where none is left it
--- is 18
+-- is 30
 abbrev pub runFrom : ℕ → Memory → Arch → ℕ → ℕ → ℕ → Stand → Outcome Ran
-runFrom zero m a limit off pos s = Outcome.Refused BadEkoRecord
+runFrom zero m a limit off pos s = Outcome.Refused EkoTruncated
 runFrom (suc left) m a limit off pos s = do
   d ← decode m limit pos
   turned (act a off (d .next) (d .op) s) (λ s′. runFrom left m a limit off (d .next) s′)

@@ -9,9 +9,10 @@ ghost use Rattle.program.specs.Answers.{told, decoded};
 use cursor::byte_from;
 use cursor::uleb_from;
 use failure::BAD_EKO_RECORD;
+use failure::EKO_TRUNCATED;
 use failure::OUTSIDE_MEMORY;
 use leb::Byte;
-use leb::folded;
+use leb::number_of;
 
 // An operation that sets the rules of the state.
 pub enum Rule {
@@ -137,7 +138,7 @@ fn long_number_at<'a>(
         numbered (ulebAt (lent (now (section .entry)) «section_base» (now (stack .entry)) «stack_base» .regions) limit pos)
         ⌝ }
 {
-    match folded(uleb_from(section, section_base, stack, stack_base, pos, limit)) {
+    match number_of(uleb_from(section, section_base, stack, stack_base, pos, limit)) {
         leb::Number::Is(v, next) => Number::Is(v as u32, next),
         leb::Number::Refused(n) => Number::Refused(n),
     }
@@ -238,7 +239,7 @@ pub fn decode<'a>(
             limit,
             form_of(code),
         ),
-        Byte::Limit => Decoded::Refused(BAD_EKO_RECORD),
+        Byte::Limit => Decoded::Refused(EKO_TRUNCATED),
         Byte::Outside => Decoded::Refused(OUTSIDE_MEMORY),
     }
 }

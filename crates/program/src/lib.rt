@@ -31,6 +31,7 @@ use decode::form_of;
 use failure::BAD_EKO_RECORD;
 use failure::BAD_OPENING;
 use failure::REMEMBER_STACK_OVERFLOW;
+use failure::TOO_MANY_SAVED;
 use mem::opening;
 use state::Counted;
 use state::State;
@@ -94,8 +95,8 @@ struct Acted {
     count: usize,
 }
 
-// A change of pairs as document 01 answers it.
-fn folded(c: Counted, fp: bool, units: u32) -> Followed
+// A change of pairs as the papers answer it: a 33rd register is 32, the other faults of a save are 18.
+fn answered(c: Counted, fp: bool, units: u32) -> Followed
     ensures { λ r. ⌜ ((regs slots : List ℕ) → followed r regs slots ≡ told (nextIn fp units c regs slots)) ⌝ }
 {
     let count = c.count;
@@ -114,7 +115,7 @@ fn folded(c: Counted, fp: bool, units: u32) -> Followed
             count,
         },
         state::Status::Full => Followed {
-            status: Status::Refused(BAD_EKO_RECORD),
+            status: Status::Refused(TOO_MANY_SAVED),
             fp,
             units,
             count,
@@ -143,7 +144,7 @@ fn save<'a, 'b>(
         changed (Save.save (stateOf fp units count (now (regs .entry)) (now (slots .entry))) reg slot)
         ⌝ }
 {
-    folded(save_in(regs, slots, count, reg, slot), fp, units)
+    answered(save_in(regs, slots, count, reg, slot), fp, units)
 }
 
 // A register back to its entry rule.
@@ -161,7 +162,7 @@ fn restore<'a, 'b>(
         changed (Restore.restore (numbers arch) (stateOf fp units count (now (regs .entry)) (now (slots .entry))) reg)
         ⌝ }
 {
-    folded(restore_in(regs, slots, count, arch, reg), fp, units)
+    answered(restore_in(regs, slots, count, arch, reg), fp, units)
 }
 
 // fp saved at 2, then the return register at 1.

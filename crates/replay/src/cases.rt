@@ -42,7 +42,7 @@ pub fn check_uleb(words: &[usize; 8192]) -> bool {
         pos,
         end,
     );
-    let moved = leb::folded(cursor::uleb_from(
+    let moved = leb::number_of(cursor::uleb_from(
         &section[..n],
         m.section_base,
         &stack[..k],

@@ -173,6 +173,9 @@ fn name(n: u32) {
         27 => put(b"OutsideMemory"),
         28 => put(b"BadOpening"),
         29 => put(b"TooManyFrames"),
+        30 => put(b"EkoTruncated"),
+        31 => put(b"BadUleb"),
+        32 => put(b"TooManySaved"),
         _ => put(b"unknown"),
     }
 }

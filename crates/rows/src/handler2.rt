@@ -36,7 +36,7 @@ fn number<'a>(
         Handler2.uleb (lent (now (section .entry)) «section_base» (now (stack .entry)) «stack_base» .regions) limit pos
         ⌝ }
 {
-    leb::folded(cursor::uleb_from(section, section_base, stack, stack_base, pos, limit))
+    leb::number_of(cursor::uleb_from(section, section_base, stack, stack_base, pos, limit))
 }
 
 // A row that was found, with so many rows left at a position.

@@ -5,3 +5,4 @@ pub mod Restore
 pub mod Save
 pub mod Public
 pub mod Proper
+pub mod Faults

@@ -52,7 +52,7 @@ module _ (st : State) (reg : ℕ) where
   unfolding without
   without-none e = rw e
 
-  without-count : (i : ℕ) → placeOf st reg ≡ At i → without st reg .count ≡ st .count - 1
+  pub without-count : (i : ℕ) → placeOf st reg ≡ At i → without st reg .count ≡ st .count - 1
   unfolding without
   without-count i e = rw e
 

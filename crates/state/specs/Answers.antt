@@ -1,10 +1,10 @@
--- Document 01's number and values for each case of this crate's answers.
+-- The papers' number and values for each case of this crate's answers.
 use mathlib.Core.Bool.{Bool}
 use mathlib.Core.List.{List}
 use mathlib.Core.Option.{Option, some, none}
 use Prim.Native.Nat.{ℕ}
 use Rattle.failure.specs.Outcome.{Outcome, Refused, Answer}
-use Rattle.failure.specs.Failure.{BadEkoRecord, BadOpening}
+use Rattle.failure.specs.Failure.{BadEkoRecord, BadOpening, TooManySaved}
 use Rattle.state.specs.declared.State.{State}
 use Rattle.state.specs.declared.Slot.{Slot}
 use Rattle.state.specs.declared.Slot.the-variants as slot
@@ -16,11 +16,11 @@ use Rattle.state.specs.State.{stateOf}
 use Rattle.state.specs.Save as Save
 use Rattle.state.specs.Save.{Change, Done, OutOfRange, Full}
 
--- a change: a 33rd register is 18 as the other faults of a save are
+-- a change: a 33rd register is 32, the other faults of a save are 18
 abbrev pub changed : Change → Outcome State
 changed (Done st) = Answer st
 changed OutOfRange = Refused BadEkoRecord
-changed Full = Refused BadEkoRecord
+changed Full = Refused TooManySaved
 changed Save.BadOpening = Refused BadOpening
 
 -- the status of a change, which tells a 33rd register apart
@@ -43,12 +43,12 @@ next st x = record { status = statusOf x; state = handedBack st (changed x) }
 abbrev pub nextIn : Bool → ℕ → Counted → List ℕ → List ℕ → Next
 nextIn fp units r regs slots = record { status = r .status; state = stateOf fp units (r .count) regs slots }
 
--- document 01's number and value for each case of a Status, with the state beside it: a 33rd register is 18 as the other faults of a
--- save are
+-- the papers' number and value for each case of a Status, with the state beside it: a 33rd register is 32, the other faults of a save
+-- are 18
 abbrev pub toldBy : Status → State → Outcome State
 toldBy status.Done st = Answer st
 toldBy status.OutOfRange st = Refused BadEkoRecord
-toldBy status.Full st = Refused BadEkoRecord
+toldBy status.Full st = Refused TooManySaved
 toldBy status.BadOpening st = Refused BadOpening
 
 -- for what the code hands back

@@ -5,3 +5,4 @@ pub mod Save
 pub mod Restore
 pub mod Public
 pub mod Answers
+pub mod Faults

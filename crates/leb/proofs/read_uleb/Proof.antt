@@ -16,15 +16,15 @@ returns c = simp (sym (c .before .opens .ensures) ∙ not-true _ (c .if1 .taken)
 uleb-at-requires : tie.Need-uleb-at-requires
 uleb-at-requires c κs = search needs
 
-folded-requires : tie.Need-folded-requires
-folded-requires c κs = search needs
+number-of-requires : tie.Need-number-of-requires
+number-of-requires c κs = search needs
 
 returns-2 : tie.Need-returns-2
 unfolding readUleb
 returns-2 c =
     simp (sym (c .before .before .before .opens .ensures) ∙ not-false _ (c .before .before .if1 .left))
-    (c .folded .ensures ∙ c .before .uleb-at .ensures .1)
+    (c .number-of .ensures ∙ c .before .uleb-at .ensures .1)
 
 pub read-uleb-spec : {M : Type 1} → statement M
 read-uleb-spec =
-    tie.close (tie.spec opens-requires returns uleb-at-requires folded-requires returns-2)
+    tie.close (tie.spec opens-requires returns uleb-at-requires number-of-requires returns-2)

@@ -9,11 +9,11 @@ use Rattle.program.proofs.restore.Tie as tie
 restore-in-requires : tie.Need-restore-in-requires
 restore-in-requires c κs = search needs
 
-folded-requires : tie.Need-folded-requires
-folded-requires c κs = search needs
+answered-requires : tie.Need-answered-requires
+answered-requires c κs = search needs
 
 returns : tie.Need-returns
-returns c = c .folded .ensures _ _ ∙ next-told _ (restore _ _ _) _ (c .before .restore-in .ensures _ _)
+returns c = c .answered .ensures _ _ ∙ next-told _ (restore _ _ _) _ (c .before .restore-in .ensures _ _)
 
 pub restore-spec : {M : Type 1} → statement M
-restore-spec = tie.close (tie.spec restore-in-requires folded-requires returns)
+restore-spec = tie.close (tie.spec restore-in-requires answered-requires returns)

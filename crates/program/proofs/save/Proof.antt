@@ -9,11 +9,11 @@ use Rattle.program.proofs.save.Tie as tie
 save-in-requires : tie.Need-save-in-requires
 save-in-requires c κs = search needs
 
-folded-requires : tie.Need-folded-requires
-folded-requires c κs = search needs
+answered-requires : tie.Need-answered-requires
+answered-requires c κs = search needs
 
 returns : tie.Need-returns
-returns c = c .folded .ensures _ _ ∙ next-told _ (save _ _ _) _ (c .before .save-in .ensures _ _)
+returns c = c .answered .ensures _ _ ∙ next-told _ (save _ _ _) _ (c .before .save-in .ensures _ _)
 
 pub save-spec : {M : Type 1} → statement M
-save-spec = tie.close (tie.spec save-in-requires folded-requires returns)
+save-spec = tie.close (tie.spec save-in-requires answered-requires returns)

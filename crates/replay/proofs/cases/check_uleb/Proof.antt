@@ -47,8 +47,8 @@ slice-aggregate-uleb-from-2 c = simp length-take (omega arith)
 uleb-from-requires : tie.Need-uleb-from-requires
 uleb-from-requires c κs = search needs
 
-folded-requires : tie.Need-folded-requires
-folded-requires c κs = search needs
+number-of-requires : tie.Need-number-of-requires
+number-of-requires c κs = search needs
 
 after-requires-2 : tie.Need-after-requires-2
 after-requires-2 c κs = search needs
@@ -86,7 +86,7 @@ check-uleb-spec =
     array-share-prefix-stack-2
     slice-aggregate-uleb-from-2
     uleb-from-requires
-    folded-requires
+    number-of-requires
     after-requires-2
     same-number-requires
     returns

@@ -8,11 +8,11 @@ use Rattle.rows.proofs.handler2.number.Tie as tie
 uleb-from-requires : tie.Need-uleb-from-requires
 uleb-from-requires c κs = search needs
 
-folded-requires : tie.Need-folded-requires
-folded-requires c κs = search needs
+number-of-requires : tie.Need-number-of-requires
+number-of-requires c κs = search needs
 
 returns : tie.Need-returns
-returns c = c .folded .ensures ∙ ap numbered (c .before .uleb-from .ensures)
+returns c = c .number-of .ensures ∙ ap numbered (c .before .uleb-from .ensures)
 
 pub number-spec : {M : Type 1} → statement M
-number-spec = tie.close (tie.spec uleb-from-requires folded-requires returns)
+number-spec = tie.close (tie.spec uleb-from-requires number-of-requires returns)

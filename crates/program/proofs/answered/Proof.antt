@@ -1,10 +1,10 @@
--- `program::folded` meets its contract. Assumes nothing.
+-- `program::answered` meets its contract. Assumes nothing.
 use mathlib.Core.Path.{sym, ap}
 use borrow.Author.Needs.{needs}
 use Rattle.state.specs.declared.Status.{Status}
 use Rattle.state.specs.Answers.{toldBy, nextIn}
-use Rattle.program.proofs.folded.Statement.{statement}
-use Rattle.program.proofs.folded.Tie as tie
+use Rattle.program.proofs.answered.Statement.{statement}
+use Rattle.program.proofs.answered.Tie as tie
 
 enum-told : tie.Need-enum-told
 enum-told c = search needs
@@ -38,7 +38,7 @@ returns-4 c =
     λ regs slots. let n = c .before .before .args in
     sym (ap (λ (s : Status). toldBy s (nextIn (n .fp) (n .units) (n .c) regs slots .state)) (c .enum-told4 .given .1))
 
-pub folded-spec : {M : Type 1} → statement M
-folded-spec =
+pub answered-spec : {M : Type 1} → statement M
+answered-spec =
     tie.close
     (tie.spec enum-told enum-told-2 enum-told-3 enum-told-4 returns returns-2 returns-3 returns-4)

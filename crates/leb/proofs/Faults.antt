@@ -28,10 +28,17 @@ only-outside (byte.Is b) e = let z : _≡_ {A = ℕ} 0 1 = cc in absurd (omega a
 only-outside byte.Limit e = let z : _≡_ {A = ℕ} 30 27 = cc in absurd (omega arith)
 only-outside byte.Outside e = refl
 
-one-of-two : (x : Byte) (n : ℕ) → numberedByte x ≡ Refused n → (n ≡ 30) ⊎ (n ≡ 27)
-one-of-two (byte.Is b) n e = let z : _≡_ {A = ℕ} 0 1 = cc in absurd (omega arith)
-one-of-two byte.Limit n e = inl cc
-one-of-two byte.Outside n e = inr cc
+-- a byte that is refused has one of two numbers, a number one of three
+pub byte-refused : (x : Byte) (n : ℕ) → numberedByte x ≡ Refused n → (n ≡ 30) ⊎ (n ≡ 27)
+byte-refused (byte.Is b) n e = let z : _≡_ {A = ℕ} 0 1 = cc in absurd (omega arith)
+byte-refused byte.Limit n e = inl cc
+byte-refused byte.Outside n e = inr cc
+
+pub number-refused : (u : Uleb) (n : ℕ) → numbered u ≡ Refused n → (n ≡ 30) ⊎ (n ≡ 31) ⊎ (n ≡ 27)
+number-refused (Is v next) n e = let z : _≡_ {A = ℕ} 0 1 = cc in absurd (omega arith)
+number-refused Limit n e = inl cc
+number-refused TooLarge n e = inr (inl cc)
+number-refused Outside n e = inr (inr cc)
 
 pub byte-faults : (m : Memory) (limit pos : ℕ) → ByteFaults m limit pos
 byte-faults m limit pos =
@@ -44,7 +51,7 @@ byte-faults m limit pos =
         λ e. byte-outside m limit pos (only-outside (byteAt m limit pos) (told ∙ e)),
         λ h. sym told ∙ sym (ap numberedByte (byte-loaded m limit pos (h .0) (Refused 27) (sym (h .1)))),
       );
-      noOther = λ n e. one-of-two (byteAt m limit pos) n (told ∙ e);
+      noOther = λ n e. byte-refused (byteAt m limit pos) n (told ∙ e);
     }
   where
     told : numberedByte (byteAt m limit pos) ≡ readByte m limit pos
@@ -70,19 +77,13 @@ module _ (m : Memory) (limit pos : ℕ) where
   leaves TooLarge r e = let z : _≡_ {A = ℕ} 31 27 = cc in absurd (omega arith)
   leaves Outside r e = r
 
-  one-of-three : (u : Uleb) (n : ℕ) → numbered u ≡ Refused n → (n ≡ 30) ⊎ (n ≡ 31) ⊎ (n ≡ 27)
-  one-of-three (Is v next) n e = let z : _≡_ {A = ℕ} 0 1 = cc in absurd (omega arith)
-  one-of-three Limit n e = inl cc
-  one-of-three TooLarge n e = inr (inl cc)
-  one-of-three Outside n e = inr (inr cc)
-
   pub number-faults : Bytes m → NumberFaults m limit pos
   number-faults holds =
       record {
         truncated = (λ e. cut (ulebAt m limit pos) meant (told ∙ e), λ r. sym told ∙ ap numbered (exact m limit pos Limit r));
         badUleb = (λ e. bad (ulebAt m limit pos) meant (told ∙ e), λ r. sym told ∙ ap numbered (exact m limit pos TooLarge r));
         outside = (λ e. leaves (ulebAt m limit pos) meant (told ∙ e), λ r. sym told ∙ ap numbered (exact m limit pos Outside r));
-        noOther = λ n e. one-of-three (ulebAt m limit pos) n (told ∙ e);
+        noOther = λ n e. number-refused (ulebAt m limit pos) n (told ∙ e);
       }
     where
       meant : Means m limit pos (ulebAt m limit pos)

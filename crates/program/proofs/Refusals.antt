@@ -1,8 +1,9 @@
 -- A run is refused with 10, 18, 27, 30, 31 or 32 and no other number; so 28, which a save gives for a state of more than 32 pairs, never
 -- comes.
 -- Assumes nothing.
-use mathlib.Core.Path.{_≡_, refl, subst}
+use mathlib.Core.Path.{_≡_, refl, sym, subst}
 use mathlib.Core.Bool.{Bool, true, false}
+use mathlib.Core.Logic.{_⊎_, inl, inr}
 use mathlib.Core.List.{List, [], _∷_}
 use Prim.Native.Nat.{ℕ, zero, suc, _+_, _-_, _*_, _^_}
 use native.Mathlib.Omega.{arith}
@@ -17,8 +18,8 @@ use Rattle.arch.specs.Arch.{Arch}
 use Rattle.leb.specs.declared.Byte.{Byte}
 use Rattle.leb.specs.declared.Byte.the-variants as byte
 use Rattle.leb.specs.declared.Uleb.{Uleb}
-use Rattle.leb.specs.declared.Uleb.the-variants as uleb
 use Rattle.leb.specs.Reader.{byteAt, ulebAt, Read, numbered, numberedByte}
+use Rattle.leb.proofs.Faults as Faults
 use Rattle.state.specs.declared.State.{State}
 use Rattle.state.specs.Save.{Change, Done, OutOfRange, Full, BadOpening, save}
 use Rattle.state.specs.Restore.{restore}
@@ -51,11 +52,14 @@ carried x n r e =
     let same : x ≡ n = cc in
     subst (λ (k : ℕ). Refusal k) same r
 
+-- one of a number that is not read
 number-refused : (u : Uleb) (n : ℕ) → numbered u ≡ Outcome.Refused n → Refusal n
-number-refused (uleb.Is v next) n e = let z : _≡_ {A = ℕ} 0 1 = cc in absurd (omega arith)
-number-refused uleb.Limit n e = carried EkoTruncated n truncated e
-number-refused uleb.TooLarge n e = carried BadUleb n bad-uleb e
-number-refused uleb.Outside n e = carried OutsideMemory n outside e
+number-refused u n e = go (Faults.number-refused u n e)
+  where
+    go : (n ≡ 30) ⊎ (n ≡ 31) ⊎ (n ≡ 27) → Refusal n
+    go (inl p) = subst (λ (k : ℕ). Refusal k) (sym p) truncated
+    go (inr (inl p)) = subst (λ (k : ℕ). Refusal k) (sym p) bad-uleb
+    go (inr (inr p)) = subst (λ (k : ℕ). Refusal k) (sym p) outside
 
 rest-refused : (m : Memory) (limit pos : ℕ) (f : Form) (n : ℕ) → restAt m limit pos f ≡ Outcome.Refused n → Refusal n
 rest-refused m limit pos (Whole op) n = λ e. (let z : _≡_ {A = ℕ} 0 1 = cc in absurd (omega arith))

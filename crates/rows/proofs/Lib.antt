@@ -9,3 +9,4 @@ pub mod Prefix
 pub mod NotRefused
 pub mod Listed
 pub mod Section
+pub mod Refusals

@@ -10,6 +10,7 @@ use Rattle.boundaries.proofs.Sweep.{sweeps-x86-1, sweeps-x86-2, sweeps-
 use Rattle.boundaries.proofs.Many.{many-frames}
 use Rattle.boundaries.proofs.Interface.{personalities-x86-1, personalities-x86-2, personalities-aarch64-2, structs}
 use Rattle.boundaries.proofs.Unwinding.{calls-x86-1, calls-x86-2, calls-aarch64-2}
+use Rattle.boundaries.proofs.Faults.{reads, faults-x86-2, faults-aarch64-2}
 use Rattle.boundaries.proofs.Architectures.{refused28}
 use Rattle.boundaries.proofs.Chunk.{chunks}
 
@@ -28,4 +29,7 @@ table = (
   structs,
   refused28,
   chunks,
+  reads,
+  faults-x86-2,
+  faults-aarch64-2,
 )

@@ -7,6 +7,7 @@ pub mod Sweep
 pub mod Many
 pub mod Interface
 pub mod Unwinding
+pub mod Faults
 pub mod Architectures
 pub mod Chunk
 pub mod Joint

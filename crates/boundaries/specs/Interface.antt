@@ -104,8 +104,8 @@ abbrev pub ulebs : List (Row Read)
 ulebs =
     eko-read-uleb lent2 0x103c 0x1048 gives read 0 144 0x103e ∷
     eko-read-uleb lent2 0x103c 0x103e gives read 0 144 0x103e ∷
-    eko-read-uleb lent2 0x103c 0x103d gives read 18 0 0 ∷
-    eko-read-uleb lent2 0x103c 0x103c gives read 18 0 0 ∷
+    eko-read-uleb lent2 0x103c 0x103d gives read 30 0 0 ∷
+    eko-read-uleb lent2 0x103c 0x103c gives read 30 0 0 ∷
     eko-read-uleb lent2 0x1047 0x1048 gives read 0 0 0x1048 ∷
     eko-read-uleb lent2 0x1048 0x1049 gives read 27 0 0 ∷
     eko-read-uleb lent2 0x805f 0x8060 gives read 0 0 0x8060 ∷
@@ -126,7 +126,8 @@ slots =
 abbrev pub entryOf : Target → State
 entryOf t = if eqb (t .arch) 1 then state false 0 0 [] [] else state false 1 1 (16 ∷ []) (1 ∷ [])
 
--- `eko_save`: "A save of slot 0 or above 65535, of a register above 65535 or of a 33rd one .. 18"; 33 pairs are 28, first
+-- `eko_save`: "A save of slot 0 or above 65535, of a register above 65535 .. 18"; "32 a 33rd register is saved; .. a save's other 18 before
+-- 32" (document 02 (c)); 33 pairs are 28, first
 abbrev pub saves : List (Row Changed)
 saves =
     eko-save (entryOf x86-2) 3 2 gives changed 0 (state false 1 2 (16 ∷ 3 ∷ []) (1 ∷ 2 ∷ [])) ∷
@@ -144,7 +145,12 @@ saves =
       regs = replicate 31 5 ++ (6 ∷ []);
       slots = replicate 31 1 ++ (2 ∷ []);
     }) ∷
-    eko-save (counting 32) 6 2 gives changed 18 (counting 32) ∷
+    eko-save (counting 32) 6 2 gives changed 32 (counting 32) ∷
+    eko-save (counting 32) 6 0 gives changed 18 (counting 32) ∷
+    eko-save (counting 32) 6 65536 gives changed 18 (counting 32) ∷
+    eko-save (counting 32) 65535 2 gives changed 32 (counting 32) ∷
+    eko-save (counting 32) 65536 2 gives changed 18 (counting 32) ∷
+    eko-save (counting 32) 5 0 gives changed 18 (counting 32) ∷
     eko-save (counting 32) 5 1 gives changed 0 (counting 32) ∷
     eko-save (counting 33) 5 1 gives changed 28 (counting 33) ∷
     eko-save (counting 33) 6 0 gives changed 28 (counting 33) ∷ []
@@ -157,6 +163,9 @@ restores =
     eko-restore 2 (state false 1 2 (16 ∷ 3 ∷ []) (1 ∷ 2 ∷ [])) 3 gives changed 0 (state false 1 1 (16 ∷ 3 ∷ []) (1 ∷ 2 ∷ [])) ∷
     eko-restore 2 (entryOf x86-2) 3 gives changed 0 (entryOf x86-2) ∷
     eko-restore 2 (counting 32) 5 gives changed 0 (counting 31) ∷
+    eko-restore 2 (counting 32) 16 gives changed 32 (counting 32) ∷
+    eko-restore 1 (counting 32) 16 gives changed 0 (counting 32) ∷
+    eko-restore 1 (counting 32) 30 gives changed 0 (counting 32) ∷
     eko-restore 2 (counting 33) 5 gives changed 28 (counting 33) ∷
     eko-restore 1 (counting 32) 6 gives changed 0 (counting 32) ∷
     eko-restore 1 (counting 33) 6 gives changed 28 (counting 33) ∷ []
@@ -168,11 +177,11 @@ ran =
     eko-run lent2 2 0x1036 0x1048 0x1f gives ended 0 (state true 2 2 (16 ∷ 6 ∷ []) (1 ∷ 2 ∷ [])) 0 ∷
     eko-run lent2 2 0x1036 0x1048 0x20 gives ended 0 (state true 4 2 (16 ∷ 6 ∷ []) (1 ∷ 2 ∷ [])) 0x103a ∷
     eko-run lent2 2 0x1036 0x103a 0x20 gives ended 0 (state true 4 2 (16 ∷ 6 ∷ []) (1 ∷ 2 ∷ [])) 0x103a ∷
-    eko-run lent2 2 0x1036 0x1039 0x20 gives ended 18 (entryOf x86-2) 0 ∷
-    eko-run lent2 2 0x1036 0x1036 0 gives ended 18 (entryOf x86-2) 0 ∷
+    eko-run lent2 2 0x1036 0x1039 0x20 gives ended 30 (entryOf x86-2) 0 ∷
+    eko-run lent2 2 0x1036 0x1036 0 gives ended 30 (entryOf x86-2) 0 ∷
     eko-run lent2 2 0x2000 0x2001 0 gives ended 27 (entryOf x86-2) 0 ∷
     eko-run lent2 1 0x1034 0x1048 0 gives ended 0 (state true 2 2 (29 ∷ 30 ∷ []) (2 ∷ 1 ∷ [])) 0x1036 ∷
-    eko-run lent2 1 0x1036 0x1036 0 gives ended 18 (entryOf aarch64-2) 0 ∷ []
+    eko-run lent2 1 0x1036 0x1036 0 gives ended 30 (entryOf aarch64-2) 0 ∷ []
 
 -- `eko_apply`: a refusal hands back the file that came in; 32 pairs, and 33
 abbrev pub applies : List (Row File)
@@ -224,7 +233,7 @@ rows =
     eko-handler2 lent2 0x103a 0x1048 12 gives row 0 0 2 ∷
     eko-handler2 lent2 0x103a 0x1048 16 gives row 18 0 0 ∷
     eko-handler2 lent2 0x103a 0x1048 20 gives row 1 0 0 ∷
-    eko-handler2 lent2 0x103a 0x103a 4 gives row 18 0 0 ∷
+    eko-handler2 lent2 0x103a 0x103a 4 gives row 30 0 0 ∷
     eko-handler2 lent2 0x2000 0x2001 4 gives row 27 0 0 ∷ []
 
 -- a file at a pc, and the same at a landing pad for the exception 0xe0

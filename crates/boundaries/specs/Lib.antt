@@ -10,6 +10,7 @@ pub mod Functions
 pub mod Structs
 pub mod Interface
 pub mod Unwinding
+pub mod Faults
 pub mod Architectures
 pub mod Chunk
 pub mod Table

@@ -1,4 +1,4 @@
--- The table: document 01's words for opening, walk, throw, sweep and the C interface, a row on both sides of each number and rule.
+-- The table: the papers' words for opening, walk, throw, sweep and the C interface, a row on both sides of each number and rule.
 use Rattle.boundaries.specs.Row.{Right}
 use Rattle.boundaries.specs.Lending.{Target, x86-1, x86-2, aarch64-2}
 use Rattle.boundaries.specs.Opening.{Openings}
@@ -10,6 +10,7 @@ use Rattle.boundaries.specs.Sweep.{Sweeps, SweepsInterrupted}
 use Rattle.boundaries.specs.Many.{ManyFrames}
 use Rattle.boundaries.specs.Interface.{Structs, Personalities}
 use Rattle.boundaries.specs.Unwinding.{Calls}
+use Rattle.boundaries.specs.Faults.{Reads, FaultsOf}
 use Rattle.boundaries.specs.Architectures.{Refused28}
 use Rattle.boundaries.specs.Chunk.{Chunks}
 
@@ -25,4 +26,4 @@ OfInterrupted t = WalksInterrupted t × ThrowsInterrupted t × SweepsInterrupted
 abbrev pub Table : Type 0
 Table =
     Openings × Of x86-1 × Of x86-2 × Of aarch64-2 × OfInterrupted x86-2 × OfInterrupted aarch64-2 × WalksOfVersion1 ×
-    Right Throw.reasons × Right Sweep.reasons × ManyFrames × Structs × Refused28 × Chunks
+    Right Throw.reasons × Right Sweep.reasons × ManyFrames × Structs × Refused28 × Chunks × Reads × FaultsOf x86-2 × FaultsOf aarch64-2

@@ -1,5 +1,5 @@
-// Runs document 01's examples that are not marked, the examples of the DWARF standard, and the edges of the rules for 28,
-// and compares.
+// Runs document 01's examples that are not marked, the examples of the DWARF standard, the edges of the rules for 28, and of
+// document 02 (c) an input for each place where 30, 31 or 32 comes, and compares.
 // What comes out of each is written beside what should.
 use arch::Regs;
 use arch::Value;
@@ -10,6 +10,8 @@ use rows::Row;
 use rows::handler2::handler2;
 use state::State;
 use state::Status;
+
+mod faults;
 
 // Writes one comparison: a name, what came out, what should.
 fn line(name: &[u8], got: usize, should: usize) {
@@ -140,29 +142,38 @@ fn architectures() {
     );
 }
 
-// The refusal of a save in a state that counts so many pairs.
-fn save_at(count: usize) -> usize {
-    let st = State {
+// A state that counts so many pairs, all of register 7.
+fn counting(count: usize) -> State {
+    State {
         cfa_fp: false,
         cfa_units: 0,
         count: count,
         regs: [7; 32],
         slots: [1; 32],
-    };
-    let saved = st.save(7, 2);
-    let status = saved.status;
+    }
+}
+
+// The number of a change: 0 where it is done.
+fn change(status: Status) -> usize {
     match status {
         Status::Done => 0,
         Status::OutOfRange => 18,
-        Status::Full => 18,
+        Status::Full => 32,
         Status::BadOpening => 28,
     }
 }
 
+// The refusal of a save in a state that counts so many pairs.
+fn save_at(count: usize, reg: usize, slot: usize) -> usize {
+    let saved = counting(count).save(reg, slot);
+    let status = saved.status;
+    change(status)
+}
+
 // A state that counts more than 32 pairs gets 28.
 fn counts() {
-    line(b"save beside 32 pairs", save_at(32), 0);
-    line(b"save beside 33 pairs", save_at(33), 28);
+    line(b"save beside 32 pairs", save_at(32, 7, 2), 0);
+    line(b"save beside 33 pairs", save_at(33, 7, 2), 28);
 }
 
 // The DWARF standard's examples of unsigned LEB128 (version 5, section 7.6).
@@ -181,4 +192,8 @@ fn main() {
     openings();
     architectures();
     counts();
+    faults::programs();
+    faults::rows();
+    faults::reason();
+    faults::registers();
 }

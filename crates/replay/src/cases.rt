@@ -10,6 +10,8 @@ use crate::line::record_at;
 use crate::line::state_at;
 use crate::line::state_size;
 use crate::line::word;
+use crate::same::folded_program;
+use crate::same::folded_row;
 use crate::same::same_change;
 use crate::same::same_file;
 use crate::same::same_next;
@@ -180,7 +182,7 @@ pub fn check_run(words: &[usize; 8192], arch: u8) -> bool {
     let status = got.status;
     match status {
         program::Status::Done => word(words, after(rest, 3)) == 0,
-        program::Status::Refused(n) => word(words, after(rest, 3)) == n as usize,
+        program::Status::Refused(n) => word(words, after(rest, 3)) == folded_program(n) as usize,
     }
 }
 
@@ -290,7 +292,7 @@ pub fn check_handler2(words: &[usize; 8192]) -> bool {
         word(words, after(rest, 1)),
         (word(words, after(rest, 2)) % 0x1_0000_0000) as u32,
     );
-    same_row(words, after(rest, 3), got)
+    same_row(words, after(rest, 3), folded_row(got))
 }
 
 // personality: what is lent, PHASE EXC INTERRUPTED, a record, FILE STATUS CODE FILE'.
@@ -322,6 +324,6 @@ pub fn check_personality(words: &[usize; 8192], arch: u8) -> bool {
     let code = got.code;
     match code {
         Code::Reason(c) => word(words, end) == 0 && word(words, after(end, 1)) == c as usize,
-        Code::Refused(c) => word(words, end) == c as usize,
+        Code::Refused(c) => word(words, end) == folded_program(c) as usize,
     }
 }

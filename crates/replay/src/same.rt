@@ -44,6 +44,23 @@ pub fn same_next(got: Next, status: usize, recorded: Regs) -> bool {
     }
 }
 
+// The Rust's number for the refusal of a number: 18 where ours is 30 or 31 (document 02 (c); docs/DIFFERENCES.md, 7).
+pub fn folded_number(n: u32) -> u32 {
+    match n {
+        30 => 18,
+        31 => 18,
+        _ => n,
+    }
+}
+
+// The Rust's number for the refusal of a program: 18 where ours is 30, 31 or 32.
+pub fn folded_program(n: u32) -> u32 {
+    match n {
+        32 => 18,
+        _ => folded_number(n),
+    }
+}
+
 // A number and the place after it, against STATUS V NEXT at a place of the line.
 pub fn same_number(words: &[usize; 8192], at: usize, got: Number) -> bool {
     let status = word(words, at);
@@ -51,7 +68,7 @@ pub fn same_number(words: &[usize; 8192], at: usize, got: Number) -> bool {
         Number::Is(v, next) => {
             status == 0 && v == word(words, after(at, 1)) && next == word(words, after(at, 2))
         }
-        Number::Refused(n) => status == n as usize,
+        Number::Refused(n) => status == folded_number(n) as usize,
     }
 }
 
@@ -90,7 +107,7 @@ pub fn same_state(a: State, b: State) -> bool {
     true
 }
 
-// A changed state is as recorded: STATUS STATE'.
+// A changed state is as recorded: STATUS STATE'. The Rust has 18 for a 33rd register too, where ours is 32.
 pub fn same_change(words: &[usize; 8192], at: usize, got: state::Next) -> bool {
     let st = got.state;
     if !same_state(st, state_at(words, after(at, 1))) {
@@ -103,6 +120,15 @@ pub fn same_change(words: &[usize; 8192], at: usize, got: state::Next) -> bool {
         state::Status::OutOfRange => recorded == 18,
         state::Status::Full => recorded == 18,
         state::Status::BadOpening => recorded == 28,
+    }
+}
+
+// A row of a version 2 table as the Rust has it.
+pub fn folded_row(got: Row) -> Row {
+    match got {
+        Row::Is(pad, action) => Row::Is(pad, action),
+        Row::None => Row::None,
+        Row::Refused(n) => Row::Refused(folded_number(n)),
     }
 }
 

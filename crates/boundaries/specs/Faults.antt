@@ -54,7 +54,7 @@ ulebs =
 -- operations that save n registers, from r on, each in slot 1
 abbrev pub saving : ℕ → ℕ → List ℕ
 saving zero r = []
-saving (suc n) r = 0x80 + r ∷ 1 ∷ saving n (r + 1)
+saving (suc n) r = (0x80 + r) ∷ 1 ∷ saving n (r + 1)
 
 -- the run of a program at 0x1000 with the limit at its end: the status
 abbrev pub statusOf : Target → List ℕ → ℕ
@@ -181,7 +181,7 @@ chunk t bytes =
     record {
       section =
           -- magic, version 2, architecture, flags 1, 1 record, the chunk's size
-          0x45 ∷ 0x4b ∷ 0x55 ∷ 0x57 ∷ 2 ∷ t .arch ∷ 1 ∷ 0 ∷ 1 ∷ 0 ∷ 0 ∷ 0 ∷ 28 + length bytes ∷ 0 ∷ 0 ∷ 0 ∷
+          0x45 ∷ 0x4b ∷ 0x55 ∷ 0x57 ∷ 2 ∷ t .arch ∷ 1 ∷ 0 ∷ 1 ∷ 0 ∷ 0 ∷ 0 ∷ (28 + length bytes) ∷ 0 ∷ 0 ∷ 0 ∷
           -- start 0x1010 + 0x2ff0, length 0x10, a program at 28 with rows after it
           0xf0 ∷ 0x2f ∷ 0 ∷ 0 ∷ 0x10 ∷ 0 ∷ 0 ∷ 0 ∷ 28 ∷ 0 ∷ 0 ∷ 0x80 ∷ bytes;
       sectionBase = 0x1000;
@@ -200,7 +200,7 @@ abbrev pub cutRows : List ℕ
 cutRows = 0 ∷ 1 ∷ 5 ∷ 0xa9 ∷ []
 
 abbrev pub noDelta : List ℕ
-noDelta = 0x40 ∷ 0 ∷ 1 ∷ unended 5
+noDelta = 0x41 ∷ 0 ∷ 1 ∷ unended 5
 
 -- a program that saves 33 registers, and rows that nobody comes to
 abbrev pub tooMany : List ℕ

@@ -44,6 +44,9 @@ handler2-requires c κs = search needs
 after-requires-3 : tie.Need-after-requires-3
 after-requires-3 c κs = search needs
 
+folded-row-requires : tie.Need-folded-row-requires
+folded-row-requires c κs = search needs
+
 same-row-requires : tie.Need-same-row-requires
 same-row-requires c κs = search needs
 
@@ -67,5 +70,6 @@ check-handler2-spec =
     cast-handler2
     handler2-requires
     after-requires-3
+    folded-row-requires
     same-row-requires
     returns)

@@ -92,6 +92,9 @@ enum-known-code-2 c = search needs
 word-requires-6 : tie.Need-word-requires-6
 word-requires-6 c κs = search needs
 
+folded-program-requires : tie.Need-folded-program-requires
+folded-program-requires c κs = search needs
+
 cast-result-2 : tie.Need-cast-result-2
 cast-result-2 c = search needs
 
@@ -137,6 +140,7 @@ check-personality-spec =
     cast-result
     enum-known-code-2
     word-requires-6
+    folded-program-requires
     cast-result-2
     returns-2
     returns-3

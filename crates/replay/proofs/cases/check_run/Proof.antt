@@ -80,6 +80,9 @@ after-requires-6 c κs = search needs
 word-requires-6 : tie.Need-word-requires-6
 word-requires-6 c κs = search needs
 
+folded-program-requires : tie.Need-folded-program-requires
+folded-program-requires c κs = search needs
+
 cast-result : tie.Need-cast-result
 cast-result c = search needs
 
@@ -118,6 +121,7 @@ check-run-spec =
     enum-known-status
     after-requires-6
     word-requires-6
+    folded-program-requires
     cast-result
     returns-3
     returns-4)

@@ -38,7 +38,7 @@ failures! {
     11 UnknownRegister "a register number that the architecture does not have."
     12 BadCfaRule "the canonical frame address is 0."
     17 BadEkoHeader "a chunk's header is wrong: magic, version, architecture, flags or size."
-    18 BadEkoRecord "a record, frame word, state program or row is malformed or cut short."
+    18 BadEkoRecord "a record, frame word, state program or row is malformed."
     19 EkoUnsorted "a record overlaps its neighbour."
     20 StackNotAdvancing "a caller's sp is lower than its callee's, or equal past the first frame."
     22 HandlerFrameMissed "the cleanup phase does not find the chosen frame as the search phase left it."
@@ -48,6 +48,9 @@ failures! {
     27 OutsideMemory "the bytes to be read lie whole in neither slice."
     28 BadOpening "the opening rule is broken, or a state counts more than 32 pairs."
     29 TooManyFrames "1,024 frames were given and the stack goes on."
+    30 EkoTruncated "a state program or a row table is cut: the limit is met before a byte that it needs."
+    31 BadUleb "a number in a state program or a row table has no end in five bytes or is above 4294967295."
+    32 TooManySaved "a 33rd register is saved."
 }
 
 impl Failure {
@@ -76,8 +79,8 @@ mod tests {
     use super::*;
 
     #[test]
-    fn every_number_up_to_29_is_a_failure_or_none() {
-        let known = [10, 11, 12, 17, 18, 19, 20, 22, 23, 24, 25, 27, 28, 29];
+    fn every_number_up_to_40_is_a_failure_or_none() {
+        let known = [10, 11, 12, 17, 18, 19, 20, 22, 23, 24, 25, 27, 28, 29, 30, 31, 32];
         for number in known {
             assert_eq!(Failure::of(number).number(), number);
         }

@@ -30,8 +30,8 @@ fn numbers() {
     assert_eq!(uleb(&[0xb9, 0x64]), Ok(12857));
     assert_eq!(uleb(&[0x80, 0x00]), Ok(0));
     assert_eq!(uleb(&[0xff, 0xff, 0xff, 0xff, 0x0f]), Ok(4294967295));
-    assert_eq!(uleb(&[0xff, 0xff, 0xff, 0xff, 0x1f]), Err(Failure::BadEkoRecord));
-    assert_eq!(uleb(&[0x80; 5]), Err(Failure::BadEkoRecord));
+    assert_eq!(uleb(&[0xff, 0xff, 0xff, 0xff, 0x1f]), Err(Failure::BadUleb));
+    assert_eq!(uleb(&[0x80; 5]), Err(Failure::BadUleb));
 }
 
 #[test]
@@ -102,9 +102,12 @@ fn what_is_lent_twice_is_refused() {
 }
 
 #[test]
-fn failures_have_document_01s_numbers() {
+fn failures_have_the_documents_numbers() {
     assert_eq!(Failure::BadEkoRecord.number(), 18);
     assert_eq!(Failure::TooManyFrames.number(), 29);
+    assert_eq!(Failure::EkoTruncated.number(), 30);
+    assert_eq!(Failure::BadUleb.number(), 31);
+    assert_eq!(Failure::TooManySaved.number(), 32);
 }
 
 #[test]
@@ -112,9 +115,11 @@ fn failures_are_errors_that_say_number_name_and_meaning() {
     let error: Box<dyn Error + Send + Sync> = uleb(&[0x80; 5]).unwrap_err().into();
     assert_eq!(
         error.to_string(),
-        "18 BadEkoRecord: a record, frame word, state program or row is malformed or cut short."
+        "31 BadUleb: a number in a state program or a row table has no end in five bytes or is above 4294967295."
     );
-    assert_eq!(error.downcast_ref(), Some(&Failure::BadEkoRecord));
+    assert_eq!(error.downcast_ref(), Some(&Failure::BadUleb));
+    let malformed = "18 BadEkoRecord: a record, frame word, state program or row is malformed.";
+    assert_eq!(run(Arch::X86_64, &[0xc8, 0x00], 0).unwrap_err().to_string(), malformed);
     let seen = HashSet::from([Failure::BadEkoRecord, Failure::BadOpening]);
     assert!(seen.contains(&Failure::BadOpening) && !seen.contains(&Failure::Misaligned));
 }

@@ -12,14 +12,15 @@ mod openings;
 mod raw;
 
 use checked::{ANSWERED, NONE};
-use frames::section::{CATCHES, CLEANS, Row, TERMINATES};
-use frames::{ARCHS, Case, Code, EXCEPTION, FAULTS, Fp, NO_PAD, PAD_TERMINATES, PLAIN, TWICE, good};
+use frames::section::{CATCHES, CLEANS, TERMINATES};
+use frames::{
+    ARCHS, Case, Code, EXCEPTION, FAULTS, Fp, PLAIN, REFUSED_ROWS, REFUSED_TABLES, TWICE, good, refused_rows, refused_rows1,
+};
 use morthwyga::{Memory, PC_COLUMN, RawUnwinding, Record, Regs, State};
 
 /// An address in no record.
 const NOWHERE: usize = 0x50_0000;
 
-const REFUSED_ROWS: [(&[Row], u32); 3] = [(TWICE, 24), (NO_PAD, 18), (PAD_TERMINATES, 18)];
 const DEPTHS: [usize; 3] = [0, 1, 20];
 
 fn throws(case: &Case, memory: Memory) -> u32 {
@@ -54,12 +55,26 @@ fn a_frames_step_comes_before_its_row() {
     }
 }
 
+/// A table of version 2 is read where the program has an END.
+#[test]
+fn a_frames_step_comes_before_its_table() {
+    for (arch, before) in ARCHS.into_iter().flat_map(|arch| DEPTHS.map(|before| (arch, before))) {
+        for (number, code, fp) in FAULTS {
+            let Code::Program(operations) = code else { continue };
+            for (table, _) in REFUSED_TABLES {
+                let case = Case::with_table(arch, before, (operations, fp), table);
+                assert_eq!(throws(&case, case.memory()), number);
+                assert_eq!(met(&case).map(|given| sweeps(&case, given)), [(number, 0); 3]);
+            }
+        }
+    }
+}
+
 /// sp is the same as before: 20 past the first frame.
 #[test]
 fn the_same_sp_comes_before_the_row() {
     for (arch, before) in ARCHS.into_iter().flat_map(|arch| [1, 20].map(|before| (arch, before))) {
-        for (rows, _) in REFUSED_ROWS {
-            let case = Case::new(arch, before, (Code::Program(&[0xc1, 0]), Fp::Sp(0)), rows);
+        for (case, _) in refused_rows(arch, before, (&[0xc1, 0], Fp::Sp(0))) {
             assert_eq!(throws(&case, case.memory()), 20);
             assert_eq!(met(&case).map(|given| sweeps(&case, given)), [(20, 0); 3]);
         }
@@ -69,12 +84,10 @@ fn the_same_sp_comes_before_the_row() {
 #[test]
 fn the_row_comes_before_22() {
     for (arch, before) in ARCHS.into_iter().flat_map(|arch| DEPTHS.map(|before| (arch, before))) {
-        for (rows, number) in REFUSED_ROWS {
-            for code in [PLAIN, Code::Word(2 | 1 << 21)] {
-                let case = Case::new(arch, before, (code, Fp::Value(3)), rows);
-                assert_eq!(throws(&case, case.memory()), number);
-                assert_eq!(met(&case).map(|given| sweeps(&case, given)), [(number, 0); 3]);
-            }
+        let version1 = refused_rows1(arch, before, 2 | 1 << 21);
+        for (case, number) in refused_rows(arch, before, (&[], Fp::Value(3))).chain(version1) {
+            assert_eq!(throws(&case, case.memory()), number);
+            assert_eq!(met(&case).map(|given| sweeps(&case, given)), [(number, 0); 3]);
         }
     }
 }
@@ -83,8 +96,7 @@ fn the_row_comes_before_22() {
 #[test]
 fn a_frames_row_comes_before_its_callers_step() {
     for arch in ARCHS {
-        for (rows, number) in REFUSED_ROWS {
-            let mut case = Case::new(arch, 1, (PLAIN, Fp::Value(3)), rows);
+        for (mut case, number) in refused_rows(arch, 1, (&[], Fp::Value(3))) {
             let described = case.sp() - frames::section::STACK;
             let caller = frames::section::ret(0).to_le_bytes();
             case.stack[described..described + 8].copy_from_slice(&caller);

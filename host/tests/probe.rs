@@ -1,9 +1,7 @@
 //! The requests that only `probe` has.
+mod asked;
 #[allow(dead_code)]
 mod common;
-
-use std::io::Write;
-use std::process::{Command, Stdio};
 
 use common::{EXCEPTION, FIRST, SECTION, STACK, ret, section, stack};
 
@@ -15,13 +13,7 @@ const TWICE: &[u8] = &[0x00, 2, 5, 4 * 8, 0, 4 * 8];
 
 /// What the probe for x86-64 answers to each line.
 fn probe(lines: &[String]) -> Vec<String> {
-    let mut command = Command::new(env!("CARGO_BIN_EXE_probe"));
-    let mut child = command.arg("2").stdin(Stdio::piped()).stdout(Stdio::piped()).spawn().unwrap();
-    let mut asked = child.stdin.take().unwrap();
-    asked.write_all((lines.join("\n") + "\n").as_bytes()).unwrap();
-    drop(asked);
-    let said = String::from_utf8(child.wait_with_output().unwrap().stdout).unwrap();
-    said.lines().map(str::to_string).collect()
+    asked::probe(2, lines)
 }
 
 fn hex(bytes: &[u8]) -> String {

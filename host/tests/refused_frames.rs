@@ -10,8 +10,8 @@ mod openings;
 mod raw;
 
 use checked::{ANSWERED, NONE};
-use frames::section::{CATCHES, CLEANS, Row, TERMINATES, start};
-use frames::{ARCHS, Case, Code, EXCEPTION, FAULTS, Fp, NO_PAD, PAD_TERMINATES, PLAIN, TWICE, good};
+use frames::section::{CATCHES, CLEANS, TERMINATES, start};
+use frames::{ARCHS, Case, Code, EXCEPTION, FAULTS, Fp, PLAIN, good, refused_rows, refused_rows1};
 use morthwyga::{Memory, PC_COLUMN, RawUnwinding, Record, Regs, State};
 
 /// How many frames lie below the one that is refused: the third number is past a batch of a walk.
@@ -65,10 +65,8 @@ fn faults() -> impl Iterator<Item = (Case, u32)> {
 
 /// Every fault of a row at every depth, with its number.
 fn row_faults() -> impl Iterator<Item = (Case, u32)> {
-    let rows: [(&'static [Row], u32); 3] = [(TWICE, 24), (NO_PAD, 18), (PAD_TERMINATES, 18)];
-    let codes = [(PLAIN, Fp::Value(3)), (Code::Word(2 | 1 << 21), Fp::Value(3))];
-    let at = move |arch, before| {
-        codes.into_iter().flat_map(move |code| rows.map(|(rows, number)| (Case::new(arch, before, code, rows), number)))
+    let at = |arch, before| {
+        refused_rows(arch, before, (&[], Fp::Value(3))).chain(refused_rows1(arch, before, 2 | 1 << 21))
     };
     ARCHS.into_iter().flat_map(move |arch| DEPTHS.into_iter().flat_map(move |before| at(arch, before)))
 }

@@ -153,5 +153,5 @@ fn the_texts_of_the_samples_are_what_the_library_answers() {
             count += 1;
         }
     }
-    assert_eq!(count, 22);
+    assert_eq!(count, 26);
 }

@@ -1,6 +1,6 @@
 //! One capture for each refusal that a throw can meet, and some for the order of two.
 use crate::format::{Capture, Sample};
-use crate::section::{CATCHES, Framed, Function, PAD, RETURN, Row, SECTION, STACK, chunk1, chunk2, ret};
+use crate::section::{CATCHES, Framed, Function, PAD, RETURN, Row, SAVES_33, SECTION, STACK, chunk1, chunk2, cut2, ret};
 use morthwyga::{Action, Arch, Regs};
 
 /// Two x86-64 functions whose frames are their return addresses alone. The first, which throws, has this program; the second
@@ -67,6 +67,14 @@ fn same_sp_and_row() -> Capture {
     Capture { section, pc: ret(0) - 8, ..same_sp() }
 }
 
+/// The function that throws has a chunk of its own, which ends with these bytes of its program and rows; the catch is in the next.
+fn cut(bytes: &[u8]) -> Capture {
+    let mut section = cut2(Arch::X86_64, SECTION, 0, bytes);
+    let at = SECTION + section.len();
+    section.extend(chunk2(Arch::X86_64, at, 1, &[Function { program: &[0x00], rows: CATCHES }]));
+    Capture { section, ..good() }
+}
+
 /// A version 1 word that describes the frame at its calls only, and an interrupt.
 fn interrupted() -> Capture {
     let section = chunk1(Arch::X86_64, SECTION, 0, &[Framed { word: 1, rows: CATCHES }]);
@@ -102,6 +110,10 @@ pub fn samples() -> Vec<Sample> {
         ("refused-28-section-at-0", Capture { section_base: 0, ..good() }),
         ("refused-29-1025-frames", frames(ret(0))),
         ("refused-29-outside-every-record", frames(NOWHERE)),
+        ("refused-30-program-cut", cut(&[0x04, 0xc9, 0x02, 0x83])),
+        ("refused-30-rows-cut", cut(&[0x00, 1])),
+        ("refused-31-number-without-end", two(&[0xc0, 0x80, 0x80, 0x80, 0x80, 0x80, 0x00])),
+        ("refused-32-33rd-register", two(&SAVES_33)),
     ];
     samples.into_iter().map(|(name, capture)| (name, capture.bytes())).collect()
 }

@@ -19,6 +19,18 @@ pub const CATCHES: &[Row] = &[(RETURN, PAD, Action::Catch)];
 pub const CLEANS: &[Row] = &[(RETURN, PAD, Action::Cleanup)];
 pub const TERMINATES: &[Row] = &[(RETURN, 0, Action::Terminate)];
 
+/// Saves of registers 0 to 32, each in slot 1, and END. With the return register, which is one of them, a state has 33 pairs.
+pub const SAVES_33: [u8; 67] = {
+    let mut bytes = [0; 67];
+    let mut reg = 0;
+    while reg <= 32 {
+        bytes[2 * reg] = 0x80 | reg as u8;
+        bytes[2 * reg + 1] = 1;
+        reg += 1;
+    }
+    bytes
+};
+
 /// A function of a version 2 chunk: its state program, and its rows.
 pub struct Function {
     pub program: &'static [u8],
@@ -65,6 +77,14 @@ pub fn chunk1(arch: Arch, at: usize, first: usize, functions: &[Framed]) -> Vec<
         tail.extend(std::iter::once(function.rows.len()).chain(rows).flat_map(|word| (word as u32).to_le_bytes()));
     }
     chunk(arch, 1, functions.len(), &[records, tail].concat())
+}
+
+/// A version 2 chunk of one function that ends with these bytes of its program and its rows, wherever they are cut. In front they
+/// are filled up to whole words with the operation 41, which gives a frame one unit.
+pub fn cut2(arch: Arch, at: usize, function: usize, bytes: &[u8]) -> Vec<u8> {
+    let fill = vec![0x41; bytes.len().next_multiple_of(4) - bytes.len()];
+    let record = record(at + 16, function, &[28 | 1 << 31]);
+    chunk(arch, 2, 1, &[&record, &fill, bytes].concat())
 }
 
 /// A header before the rest of its chunk, which is filled up to whole words.

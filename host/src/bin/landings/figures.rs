@@ -1,4 +1,6 @@
 //! What a run counts.
+use std::collections::BTreeMap;
+use std::ops::RangeBounds;
 
 #[derive(Default)]
 pub struct Figures {
@@ -16,7 +18,7 @@ pub struct Figures {
     pub overwritten_landings: usize,
     pub resized_landings: usize,
     /// Irregular calls, by their status.
-    pub irregular: [usize; 30],
+    pub irregular: BTreeMap<u32, usize>,
     /// Calls with an opening or an architecture that is refused.
     pub broken: usize,
     /// Runs of programs that fill a state.
@@ -52,6 +54,11 @@ impl Figures {
         self.deepest = self.deepest.max(depth);
     }
 
+    /// How many irregular calls have a status of this range.
+    fn irregular_with(&self, statuses: impl RangeBounds<u32>) -> usize {
+        self.irregular.range(statuses).map(|(_, count)| count).sum()
+    }
+
     pub fn print(&self, name: &str) {
         println!("{name}: {} throws, {} resume calls over an overwritten stack, no difference", self.throws, self.overwritten);
         let lines = [
@@ -67,13 +74,13 @@ impl Figures {
             ("resume calls over an overwritten stack", self.overwritten),
             ("landings over an overwritten stack", self.overwritten_landings),
             ("of them with another base or length", self.resized_landings),
-            ("irregular calls refused", self.irregular[2..].iter().sum()),
-            ("of them with 18", self.irregular[18]),
-            ("of them with 22", self.irregular[22]),
-            ("of them with 24", self.irregular[24]),
-            ("of them with 27", self.irregular[27]),
-            ("of them with 29", self.irregular[29]),
-            ("irregular calls not refused", self.irregular[..2].iter().sum()),
+            ("irregular calls refused", self.irregular_with(2..)),
+            ("of them with 18", self.irregular_with(18..=18)),
+            ("of them with 22", self.irregular_with(22..=22)),
+            ("of them with 24", self.irregular_with(24..=24)),
+            ("of them with 27", self.irregular_with(27..=27)),
+            ("of them with 29", self.irregular_with(29..=29)),
+            ("irregular calls not refused", self.irregular_with(..2)),
             ("calls refused with 28", self.broken),
             ("runs that fill a state", self.full),
             ("throws refused for a row", self.refused_throws),

@@ -41,7 +41,7 @@ pub fn state(numbers: &'static Numbers, random: &mut Random, figures: &mut Figur
     let pairs: Vec<(u16, u16)> = (0..told.state.count).map(|i| (told.state.regs[i], told.state.slots[i])).collect();
     let given = State { fp: told.state.cfa_fp, units: told.state.cfa_units as usize, pairs };
     let refused = due.pairs.len() > MOST;
-    if told.status == if refused { 18 } else { 0 } && (refused || given == due && told.after == base + bytes.len()) {
+    if told.status == if refused { 32 } else { 0 } && (refused || given == due && told.after == base + bytes.len()) {
         return Ok(());
     }
     Err(format!("program {bytes:x?}: status {}, {given:?}, not {due:?}", told.status))

@@ -52,7 +52,7 @@ impl Calls<'_> {
     fn call(&self, memory: Memory, given: RawUnwinding, due: Option<Answer>, figures: &mut Figures) -> Checked {
         let arch = self.check.machine.numbers().arch as u8;
         let told = checked::resume(memory, arch, given).map_err(|wrong| wrong.0)?;
-        figures.irregular[told.status as usize] += 1;
+        *figures.irregular.entry(told.status).or_default() += 1;
         match due {
             Some(due) if due != (told.status, told.reason) => {
                 let answer = (told.status, told.reason);

@@ -8,6 +8,7 @@ mod check;
 mod checked;
 mod driver;
 mod expected;
+mod faulty;
 mod figures;
 mod full;
 mod function;

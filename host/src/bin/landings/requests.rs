@@ -3,6 +3,7 @@
 use morthwyga::{Memory, RawUnwinding, Regs};
 
 use crate::broken;
+use crate::faulty;
 use crate::machine::{Frame, Machine, Throw};
 use crate::numbers::{File, Numbers, PC};
 use crate::random::Random;
@@ -22,7 +23,7 @@ pub fn ranges(memory: Memory) -> String {
     format!("{section_base} {} {stack_base} {}", hex(section), hex(stack))
 }
 
-/// A walk, a throw with some calls, and two sweep calls in what the throw is lent, and in three variations of it.
+/// A walk, a throw with some calls, and two sweep calls in what the throw is lent, and in four variations of it.
 pub fn print(machine: &Machine, throw: Throw, random: &mut Random) {
     let section = machine.section;
     let lent = Memory {
@@ -35,6 +36,9 @@ pub fn print(machine: &Machine, throw: Throw, random: &mut Random) {
     let part = if random.once_in(4) { Memory { stack: &[], ..lent } } else { lent };
     print_all(machine, throw, broken::opening(part, random), random);
     if let Some(bytes) = spoiled_row(machine, throw, random) {
+        print_all(machine, throw, Memory { section: &bytes, ..lent }, random);
+    }
+    if let Some(bytes) = faulty_program(machine, throw, random) {
         print_all(machine, throw, Memory { section: &bytes, ..lent }, random);
     }
     let (mut other_section, mut other_stack) = (section.bytes.clone(), machine.stack.clone());
@@ -64,6 +68,13 @@ fn spoiled_row(machine: &Machine, throw: Throw, random: &mut Random) -> Option<V
     let row = function.rows.as_ref()?.iter().position(|row| row.ret as usize == frame.file[PC] - function.start)?;
     let (bytes, _) = spoiled::section(machine.section, (frame.open.function, row), random)?;
     Some(bytes)
+}
+
+/// The section with a fault in the program or the rows of a frame, every other time the innermost, if it has a program.
+fn faulty_program(machine: &Machine, throw: Throw, random: &mut Random) -> Option<Vec<u8>> {
+    let number = if random.once_in(2) { 0 } else { random.below(machine.open.len()) };
+    let frame = machine.frames(throw).nth(number)?;
+    faulty::section(machine.section, frame.open.function, random)
 }
 
 fn print_all(machine: &Machine, throw: Throw, memory: Memory, random: &mut Random) {

@@ -1,4 +1,6 @@
 //! Random sound sections (document 01, "Chunks and records"), each with the functions that its records describe.
+use std::ops::Range;
+
 use crate::function::{Code, Function};
 use crate::numbers::Numbers;
 use crate::random::Random;
@@ -12,6 +14,9 @@ pub struct Section {
     pub functions: Vec<Function>,
     /// Where the rows of each function stand in the bytes.
     pub places: Vec<Vec<Place>>,
+    /// Where the program of each function begins in the bytes, if it has one, and its chunk.
+    pub programs: Vec<Option<usize>>,
+    pub chunks: Vec<Range<usize>>,
 }
 
 /// A chunk: its version, and which functions it describes.
@@ -40,8 +45,8 @@ impl Section {
             chunks[k].functions.push(i);
             functions.push(function);
         }
-        let places = vec![Vec::new(); functions.len()];
-        let mut section = Section { numbers, base, bytes: Vec::new(), functions, places };
+        let (places, programs, ranges) = (vec![Vec::new(); count], vec![None; count], vec![0..0; count]);
+        let mut section = Section { numbers, base, bytes: Vec::new(), functions, places, programs, chunks: ranges };
         section.write(random, &chunks);
         section
     }
@@ -70,6 +75,7 @@ impl Section {
         self.bytes.extend((0..padding).map(|_| 0xff));
         let size = (self.bytes.len() - from) as u32;
         self.bytes[from + 12..from + 16].copy_from_slice(&size.to_le_bytes());
+        chunk.functions.iter().for_each(|function| self.chunks[*function] = from..self.bytes.len());
     }
 
     /// A record's start relative to its field, its length, and the fields of its version.
@@ -87,6 +93,7 @@ impl Section {
     fn write_function(&mut self, random: &mut Random, version: u8, chunk: usize, function: usize) -> Vec<u32> {
         self.bytes.extend((0..random.below(3)).map(|_| 0xee));
         let at = (self.bytes.len() - chunk) as u32;
+        let program = &mut self.programs[function];
         let (function, places) = (&self.functions[function], &mut self.places[function]);
         match &function.code {
             Code::Word(word) => {
@@ -104,8 +111,9 @@ impl Section {
                 vec![*word, at]
             }
             Code::Entry => vec![0],
-            Code::Program(program) => {
-                self.bytes.extend(&program.bytes);
+            Code::Program(code) => {
+                *program = Some(self.bytes.len());
+                self.bytes.extend(&code.bytes);
                 let Some(list) = &function.rows else {
                     return vec![at];
                 };

@@ -1,5 +1,5 @@
 // The answers as the C interface hands them over: `#[repr(C)]` structs, and what each answer of the crates below becomes as one.
-// The status of an answer is 0 where it has values, 1 for none, else document 01's number.
+// The status of an answer is 0 where it has values, 1 for none, else the number of the refusal.
 ghost use mathlib.Core.List.{List};
 ghost use mathlib.Core.Path.{_≡_};
 ghost use Prim.Native.Nat.{ℕ};

@@ -10,8 +10,8 @@ reads = (refl, refl, refl)
 
 pub faults-x86-2 : FaultsOf x86-2
 unfolding computing
-faults-x86-2 = (refl, refl, refl, refl, refl, refl, refl)
+faults-x86-2 = (refl, refl, refl, refl, refl, refl, refl, refl)
 
 pub faults-aarch64-2 : FaultsOf aarch64-2
 unfolding computing
-faults-aarch64-2 = (refl, refl, refl, refl, refl, refl, refl)
+faults-aarch64-2 = (refl, refl, refl, refl, refl, refl, refl, refl)

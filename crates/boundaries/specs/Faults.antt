@@ -3,7 +3,7 @@
 -- before 32". Each stands beside rows of other answers. `Interface` has the rows of `eko_save` and `eko_restore`.
 use mathlib.Core.Bool.{true, false}
 use mathlib.Core.List.{List, [], _∷_, _++_}
-use Prim.Native.Nat.{ℕ, zero, suc, _+_, _%_, _/_}
+use Prim.Native.Nat.{ℕ, zero, suc, _+_}
 use lib.ListN.{length}
 use Rattle.lookup.specs.declared.Record.{Record}
 use Rattle.answers.specs.declared.Read.{Read}
@@ -15,8 +15,8 @@ use Rattle.answers.specs.declared.Raised.{Raised}
 use Rattle.answers.specs.declared.Resumed.{Resumed}
 use Rattle.answers.specs.declared.RowFound.{RowFound}
 use Rattle.boundaries.specs.Row.{Row, _gives_, Right}
-use Rattle.boundaries.specs.Lending.{Target, aarch64-2, Lending, stack}
-use Rattle.boundaries.specs.Structs.{read, ended, row, decided, stepped, batch, raised, resumed, noRecord, state, frames}
+use Rattle.boundaries.specs.Lending.{Target, x86-2, aarch64-2, Lending, stack}
+use Rattle.boundaries.specs.Structs.{read, ended, row, decided, stepped, batch, raised, resumed, noRecord, frames}
 use Rattle.boundaries.specs.Functions.{eko-read-uleb, eko-run, eko-handler2, eko-personality, eko-next-frame, eko-walk, eko-raise, eko-resume}
 use Rattle.boundaries.specs.Interface.{at, entryOf}
 use Rattle.boundaries.specs.Unwinding.{unchosen, choosing}
@@ -60,11 +60,13 @@ saving (suc n) r = (0x80 + r) ∷ 1 ∷ saving n (r + 1)
 abbrev pub statusOf : Target → List ℕ → ℕ
 statusOf t bytes = eko-run (holding bytes) (t .arch) 0x1000 (0x1000 + length bytes) 0 .status
 
--- `eko_run`, a refusal with all that it hands back
+-- `eko_run`, with all that it hands back; a run needs no byte past the advance that ends it
 abbrev pub runs : Target → List (Row Ended)
 runs t =
     eko-run (holding (0x40 ∷ [])) (t .arch) 0x1000 0x1001 0 gives ended 30 (entryOf t) 0 ∷
     eko-run (holding (0x40 ∷ [])) (t .arch) 0x1000 0x1002 0 gives ended 27 (entryOf t) 0 ∷
+    eko-run (holding (1 ∷ [])) (t .arch) 0x1000 0x1001 0 gives ended 0 (entryOf t) 0 ∷
+    eko-run (holding (1 ∷ [])) (t .arch) 0x1000 0x1001 4 gives ended 30 (entryOf t) 0 ∷
     eko-run (holding (0xc0 ∷ unended 5)) (t .arch) 0x1000 0x1006 0 gives ended 31 (entryOf t) 0 ∷
     eko-run (holding (saving 33 0)) (t .arch) 0x1000 0x1042 0 gives ended 32 (entryOf t) 0 ∷ []
 
@@ -75,17 +77,23 @@ programs t =
     statusOf t [] gives 30 ∷
     statusOf t (0x40 ∷ []) gives 30 ∷
     statusOf t (0x40 ∷ 0 ∷ []) gives 0 ∷
-    -- the number of c0, c3, c5 and 83 cut; both numbers of c4
+    -- the number of c0 to c3, c5 and 83 cut; both numbers of c4
     statusOf t (0xc0 ∷ []) gives 30 ∷
     statusOf t (0xc0 ∷ 0x80 ∷ []) gives 30 ∷
+    statusOf t (0xc1 ∷ []) gives 30 ∷
+    statusOf t (0xc2 ∷ []) gives 30 ∷
     statusOf t (0xc3 ∷ []) gives 30 ∷
     statusOf t (0xc5 ∷ []) gives 30 ∷
     statusOf t (0x83 ∷ []) gives 30 ∷
     statusOf t (0xc4 ∷ []) gives 30 ∷
     statusOf t (0xc4 ∷ 3 ∷ []) gives 30 ∷
     statusOf t (0xc4 ∷ 3 ∷ 0x80 ∷ []) gives 30 ∷
-    -- the number of c0 and 83 without end or too large; both numbers of c4
+    -- the number of c0 to c3, c5 and 83 without end or too large; both numbers of c4
     statusOf t (0xc0 ∷ unended 5) gives 31 ∷
+    statusOf t (0xc1 ∷ unended 5) gives 31 ∷
+    statusOf t (0xc2 ∷ unended 5) gives 31 ∷
+    statusOf t (0xc3 ∷ unended 5) gives 31 ∷
+    statusOf t (0xc5 ∷ unended 5) gives 31 ∷
     statusOf t (0xc0 ∷ unended 5 ++ (0 ∷ 0 ∷ [])) gives 31 ∷
     statusOf t (0x83 ∷ unended 4 ++ (0x10 ∷ 0 ∷ [])) gives 31 ∷
     statusOf t (0xc4 ∷ unended 5) gives 31 ∷
@@ -97,7 +105,7 @@ programs t =
     statusOf t (0xc4 ∷ 0x80 ∷ 0x80 ∷ 4 ∷ 1 ∷ []) gives 18 ∷
     statusOf t (0xc8 ∷ []) gives 18 ∷
     statusOf t (0xc7 ∷ 0xc7 ∷ 0xc7 ∷ 0xc7 ∷ 0xc7 ∷ []) gives 10 ∷
-    -- 32 registers and a 33rd; beside 32 an old one, and what is out of range before the 33rd
+    -- 32 registers and a 33rd; beside 32 an old one, what is out of range before the 33rd, and a slot that is cut
     statusOf t (saving 32 0 ++ (0 ∷ [])) gives 0 ∷
     statusOf t (saving 33 0) gives 32 ∷
     statusOf t (saving 32 0 ++ (0x9f ∷ 2 ∷ 0 ∷ [])) gives 0 ∷
@@ -109,13 +117,17 @@ programs t =
     statusOf t (saving 32 0 ++ (0xe1 ∷ 0xa0 ∷ 1 ∷ 0 ∷ [])) gives 0 ∷
     statusOf t (saving 32 0 ++ (0xf0 ∷ 0 ∷ [])) gives 0 ∷ []
 
--- c9 and ca on aarch64, where 29 and 30 are not among the registers: the first or the second save is a 33rd
+-- c9 and ca where fp is not among the registers, and on aarch64 neither is 30: the first save is a 33rd, on aarch64 also the second
 abbrev pub frameSaves : List (Row ℕ)
 frameSaves =
+    statusOf x86-2 (saving 30 31 ++ (0xc9 ∷ 0 ∷ [])) gives 0 ∷
+    statusOf x86-2 (saving 31 31 ++ (0xc9 ∷ 0 ∷ [])) gives 32 ∷
+    statusOf x86-2 (saving 31 31 ++ (0xca ∷ 0 ∷ [])) gives 32 ∷
     statusOf aarch64-2 (saving 29 0 ++ saving 1 31 ++ (0xc9 ∷ 0 ∷ [])) gives 0 ∷
     statusOf aarch64-2 (saving 29 0 ++ saving 2 31 ++ (0xc9 ∷ 0 ∷ [])) gives 32 ∷
     statusOf aarch64-2 (saving 29 0 ++ saving 3 31 ++ (0xc9 ∷ 0 ∷ [])) gives 32 ∷
-    statusOf aarch64-2 (saving 29 0 ++ saving 2 31 ++ (0xca ∷ 0 ∷ [])) gives 32 ∷ []
+    statusOf aarch64-2 (saving 29 0 ++ saving 2 31 ++ (0xca ∷ 0 ∷ [])) gives 32 ∷
+    statusOf aarch64-2 (saving 29 0 ++ saving 3 31 ++ (0xca ∷ 0 ∷ [])) gives 32 ∷ []
 
 -- a version 2 table at 0x1000 with the limit at its end
 abbrev pub rowOf : List ℕ → ℕ → RowFound
@@ -155,6 +167,10 @@ abbrev pub described : List ℕ → Record
 described bytes =
     record { start = 0x4000; end = 0x4010; frame = 0; handlers = 0x1000; program = 0x1000; limit = 0x1000 + length bytes; version = 2 }
 
+-- one with rows and no program
+abbrev pub tableAlone : Record
+tableAlone = record { start = 0x4000; end = 0x4010; frame = 0; handlers = 0x1000; program = 0; limit = 0; version = 2 }
+
 -- the reason of a return at offset 5 in either phase
 abbrev pub reasonOf : Target → List ℕ → Decided
 reasonOf t bytes = eko-personality (holding bytes) (t .arch) false 0xe0 false (described bytes) (at t 0x4005)
@@ -172,7 +188,9 @@ reasons t =
     reasonOf t (0 ∷ unended 5) gives decided 31 0 (at t 0x4005) ∷
     reasonOf t (0 ∷ 1 ∷ 5 ∷ 0x29 ∷ []) gives decided 0 6 (at t 0x4005) ∷
     cleanupOf t (0x40 ∷ []) gives decided 30 0 (at t 0x4005) ∷
-    cleanupOf t (0 ∷ 1 ∷ 5 ∷ unended 5) gives decided 31 0 (at t 0x4005) ∷ []
+    cleanupOf t (0 ∷ 1 ∷ 5 ∷ unended 5) gives decided 31 0 (at t 0x4005) ∷
+    -- a table without a program: its rows are looked for at address 0, here its limit
+    eko-personality (holding (0 ∷ [])) (t .arch) false 0xe0 false tableAlone (at t 0x4005) gives decided 30 0 (at t 0x4005) ∷ []
 
 -- a section of one chunk, whose one record has [0x4000, 0x4010) and these bytes, at 0x101c, as its program with rows after it; there must be
 -- a multiple of 4 of them. The stack has 0x7770 at 0x8000
@@ -189,12 +207,19 @@ chunk t bytes =
       stackBase = 0x8000;
     }
 
--- programs and row tables that are faulty: no END, a number without end, a number cut; rows cut, and a delta without end
+-- programs and row tables that are faulty: no END, and a number without end; the same past an advance that ends a run for the frame, so
+-- that its rows alone are refused; rows cut, and a delta without end
 abbrev pub noEnd : List ℕ
 noEnd = 0x40 ∷ 0x40 ∷ 0x40 ∷ 0x40 ∷ []
 
 abbrev pub noNumber : List ℕ
 noNumber = 0x40 ∷ 0x40 ∷ 0xc0 ∷ unended 5
+
+abbrev pub lateNoEnd : List ℕ
+lateNoEnd = 0x3f ∷ 0x40 ∷ 0x40 ∷ 0x40 ∷ []
+
+abbrev pub lateNoNumber : List ℕ
+lateNoNumber = 0x3f ∷ 0x40 ∷ 0xc0 ∷ unended 5
 
 abbrev pub cutRows : List ℕ
 cutRows = 0 ∷ 1 ∷ 5 ∷ 0xa9 ∷ []
@@ -202,7 +227,7 @@ cutRows = 0 ∷ 1 ∷ 5 ∷ 0xa9 ∷ []
 abbrev pub noDelta : List ℕ
 noDelta = 0x41 ∷ 0 ∷ 1 ∷ unended 5
 
--- a program that saves 33 registers, and rows that nobody comes to
+-- a program that saves 33 registers, and rows that are not read
 abbrev pub tooMany : List ℕ
 tooMany = saving 33 0 ++ (0 ∷ 0 ∷ [])
 
@@ -219,6 +244,17 @@ walks t =
     eko-walk (chunk t noNumber) (t .arch) 0 false (at t 0x4005) gives batch 31 (frames 0 [] [] []) 0 false (at t 0x4005) ∷
     eko-walk (chunk t tooMany) (t .arch) 0 false (at t 0x4005) gives batch 32 (frames 0 [] [] []) 0 false (at t 0x4005) ∷ []
 
+-- rows are not read in a walk, nor what of a program comes after the frame's offset: here it ends, outside the record
+abbrev pub walkStatus : Target → List ℕ → ℕ
+walkStatus t bytes = eko-walk (chunk t bytes) (t .arch) 0 false (at t 0x4005) .status
+
+abbrev pub rowless : Target → List (Row ℕ)
+rowless t =
+    walkStatus t lateNoEnd gives 1 ∷
+    walkStatus t lateNoNumber gives 1 ∷
+    walkStatus t cutRows gives 1 ∷
+    walkStatus t noDelta gives 1 ∷ []
+
 -- `eko_raise`, `eko_resume`: faults of the program and of the rows
 abbrev pub raises : Target → List (Row Raised)
 raises t =
@@ -226,7 +262,9 @@ raises t =
     eko-raise (chunk t noNumber) (t .arch) (at t 0x9999) 0x4005 false 0xe0 gives raised 31 0 0 0 (unchosen false (at t 0x9999)) ∷
     eko-raise (chunk t tooMany) (t .arch) (at t 0x9999) 0x4005 false 0xe0 gives raised 32 0 0 0 (unchosen false (at t 0x9999)) ∷
     eko-raise (chunk t cutRows) (t .arch) (at t 0x9999) 0x4005 false 0xe0 gives raised 30 0 0 0 (unchosen false (at t 0x9999)) ∷
-    eko-raise (chunk t noDelta) (t .arch) (at t 0x9999) 0x4005 false 0xe0 gives raised 31 0 0 0 (unchosen false (at t 0x9999)) ∷ []
+    eko-raise (chunk t noDelta) (t .arch) (at t 0x9999) 0x4005 false 0xe0 gives raised 31 0 0 0 (unchosen false (at t 0x9999)) ∷
+    eko-raise (chunk t lateNoEnd) (t .arch) (at t 0x9999) 0x4005 false 0xe0 gives raised 30 0 0 0 (unchosen false (at t 0x9999)) ∷
+    eko-raise (chunk t lateNoNumber) (t .arch) (at t 0x9999) 0x4005 false 0xe0 gives raised 31 0 0 0 (unchosen false (at t 0x9999)) ∷ []
 
 -- a sweep call at frame 0, where frame 1 is chosen
 abbrev pub sweep : Target → List ℕ → Resumed
@@ -241,7 +279,9 @@ resumes t =
     sweep t noNumber gives sweepRefused t 31 ∷
     sweep t tooMany gives sweepRefused t 32 ∷
     sweep t cutRows gives sweepRefused t 30 ∷
-    sweep t noDelta gives sweepRefused t 31 ∷ []
+    sweep t noDelta gives sweepRefused t 31 ∷
+    sweep t lateNoEnd gives sweepRefused t 30 ∷
+    sweep t lateNoNumber gives sweepRefused t 31 ∷ []
 
 -- the rows are right: of the numbers and tables, and of either architecture
 abbrev pub Reads : Type 0
@@ -249,4 +289,5 @@ Reads = Right ulebs × Right tables × Right frameSaves
 
 abbrev pub FaultsOf : Target → Type 0
 FaultsOf t =
-    Right (runs t) × Right (programs t) × Right (reasons t) × Right (nextFrames t) × Right (walks t) × Right (raises t) × Right (resumes t)
+    Right (runs t) × Right (programs t) × Right (reasons t) × Right (nextFrames t) × Right (walks t) × Right (rowless t) ×
+    Right (raises t) × Right (resumes t)

@@ -1,14 +1,14 @@
--- A row of the table: what is asked, and document 01's answer.
+-- A row of the table: what is asked, and the papers' answer.
 use mathlib.Core.List.{List, [], _∷_}
 use mathlib.Core.Path.{_≡_}
 
--- what the definitions give, and what document 01 says
+-- what the definitions give, and what the papers say
 pub record Row (A : Type 0) : Type 0 where
   pub asked : A
   pub expected : A
 
 infix 70 _gives_
--- the first is asked, the second document 01's answer
+-- the first is asked, the second the papers' answer
 abbrev pub _gives_ : {A : Type 0} → A → A → Row A
 _gives_ asked expected = record { asked = asked; expected = expected }
 

@@ -29,7 +29,7 @@ value-told Limit = refl
 value-told TooLarge = refl
 value-told Outside = refl
 
--- so document 01's outcome at a cursor is that of the value there
+-- so the papers' outcome at a cursor is that of the value there
 pub here-told : (m : Memory) (c : Bytes) → numberedValue (valueOf (ulebHere m c)) ≡ readHere m c
 here-told m c =
     value-told (ulebHere m c) ∙ ap (λ (o : Outcome Read). o >>= λ (r : Read). Answer (r .value)) (uleb-told m (c .end) (c .pos))

@@ -1,5 +1,5 @@
-// Document 02 (c): an input for each place where 30 (the limit is met before a needed byte), 31 (a uleb without end or too large) or
-// 32 (a 33rd register) comes, and for the 18 beside them. A refusal counts from 2^32 on, but where a state is changed.
+// Document 02 (c): inputs for 30 (the limit is met before a needed byte), 31 (a uleb without end or too large) and 32 (a 33rd
+// register), and for the 18 beside them. A refusal counts from 2^32 on, but where a state is changed.
 use crate::change;
 use crate::counting;
 use crate::line;

@@ -1,5 +1,5 @@
-// Runs document 01's examples that are not marked, the examples of the DWARF standard, the edges of the rules for 28, and of
-// document 02 (c) an input for each place where 30, 31 or 32 comes, and compares.
+// Runs document 01's examples that are not marked, the examples of the DWARF standard, the edges of the rules for 28, and inputs for
+// the three faults of document 02 (c), and compares.
 // What comes out of each is written beside what should.
 use arch::Regs;
 use arch::Value;
@@ -163,7 +163,7 @@ fn change(status: Status) -> usize {
     }
 }
 
-// The refusal of a save in a state that counts so many pairs.
+// The number of a save of a register in a slot, in a state that counts so many pairs.
 fn save_at(count: usize, reg: usize, slot: usize) -> usize {
     let saved = counting(count).save(reg, slot);
     let status = saved.status;

@@ -20,8 +20,8 @@ pub record ByteFaults (m : Memory) (limit pos : ℕ) : Type 0 where
 abbrev pub AboveAll : Memory → ℕ → ℕ → Type 0
 AboveAll m limit pos = (v : ℕ) × (next : ℕ) × Encoded m limit 5 pos v next × (4294967295 < v)
 
--- the number at pos: the limit after fewer than five unended bytes; five unended bytes, whatever comes after them, or a number that is too
--- large; no memory for a byte below the limit
+-- the number at pos: 30 for the limit after fewer than five unended bytes; 31 for five unended bytes, whatever comes after them, or a
+-- number that is too large; 27 for no memory at a byte below the limit
 pub record NumberFaults (m : Memory) (limit pos : ℕ) : Type 0 where
   pub truncated : (readNumber m limit pos ≡ Refused 30) ↔ Cut m limit 5 pos
   pub badUleb : (readNumber m limit pos ≡ Refused 31) ↔ (Endless m limit 5 pos ⊎ AboveAll m limit pos)

@@ -11,3 +11,5 @@ pub mod Stretch
 pub mod Section
 pub mod Proper
 pub mod Refusals
+pub mod Stops
+pub mod Faults

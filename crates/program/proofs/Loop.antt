@@ -80,7 +80,7 @@ pub record Sofar (m : Memory) (a : Arch) (program limit off : ℕ) (st : State) 
   pub same : run m a program limit off ≡ runFrom left m a limit off pos (standAt st states depth at)
 
 module _ (m : Memory) (a : Arch) (program limit off : ℕ) where
-  started : (program ≡ 0 → ⊥) → run m a program limit off ≡ runFrom (limit - program) m a limit off program (begin a)
+  pub started : (program ≡ 0 → ⊥) → run m a program limit off ≡ runFrom (limit - program) m a limit off program (begin a)
   unfolding run
   started some = simp (ne-eqb program 0 some)
 
@@ -103,13 +103,13 @@ module _ (m : Memory) (a : Arch) (program limit off : ℕ) where
   run-0 st e z = simp (eq-eqb program 0 z) (rw e)
 
   -- one operation of what is left
-  record Opened (pos next : ℕ) (op : Op) (left : ℕ) (s : Stand) : Type 0 where
+  pub record Opened (pos next : ℕ) (op : Op) (left : ℕ) (s : Stand) : Type 0 where
     pub after : ℕ
     pub enough : limit ≤ after + next
     pub same :
         runFrom left m a limit off pos s ≡ turned (act a off next op s) (λ s′. runFrom after m a limit off next s′)
 
-  open-op :
+  pub open-op :
       (pos next : ℕ) (op : Op) (left : ℕ) (s : Stand) → limit ≤ left + pos →
       Answer (record { op = op; next = next }) ≡ decode m limit pos → Opened pos next op left s
   open-op pos next op zero s h e = absurd (omega (arith, decode-moves m limit pos (record { op = op; next = next }) (sym e) .0))

@@ -5,3 +5,4 @@ pub mod Rule
 pub mod Run
 pub mod Public
 pub mod Answers
+pub mod Faults

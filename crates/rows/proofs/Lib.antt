@@ -10,3 +10,4 @@ pub mod NotRefused
 pub mod Listed
 pub mod Section
 pub mod Refusals
+pub mod Faults

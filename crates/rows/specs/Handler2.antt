@@ -22,7 +22,7 @@ nextDelta m limit left pos =
       delta ← uleb m limit pos
       Answer (delta .value))
 
--- a row that was found: 24 where the next delta is 0, then 18
+-- a row that was found: the refusal of the next delta, 24 where it is 0, then 18
 unfoldable pub matched : Memory → ℕ → ℕ → ℕ → ℕ → Outcome Found
 matched m limit left pos word = do
   next ← nextDelta m limit left pos

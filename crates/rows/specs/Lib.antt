@@ -6,3 +6,4 @@ pub mod Prefix
 pub mod NotRefused
 pub mod Answers
 pub mod Held
+pub mod Faults

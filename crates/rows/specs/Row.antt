@@ -35,7 +35,7 @@ pub data Found : Type 0 where
 unfoldable pub checked : ℕ → ℕ → Outcome Found
 checked pad action = if valid pad action then Answer (Pad pad action) else Refused BadEkoRecord
 
--- document 01's number and values for each case of a Row
+-- the papers' number and values for each case of a Row
 abbrev pub found : Row → Outcome Found
 found (row.Is pad action) = Answer (Pad pad action)
 found row.None = Answer None

@@ -91,7 +91,7 @@ module _ (a : Arch) (r : Arch2) (same : r ≡ inCode a) (st : State) (reg : ℕ)
         (le-ltb maxSaved (st .count) fits, eq-eqb reg (a .ra) ra, ne-eqb (a .entrySlot) 0 (λ p. z (slot ∙ p)))
         (cc gone)
 
--- a change as the code hands it back is told by document 01's number and value for the change
+-- a change as the code hands it back is told by the papers' number and value for the change
 pub next-told : (st : State) (x : Change) (r : Next) → r ≡ next st x → told r ≡ changed x
 next-told st x r e = ap told e ∙ same x
   where

@@ -23,7 +23,7 @@ Beyond32 st reg = (st .count ≡ 32) × Unsaved st reg
 abbrev pub Unfit : ℕ → ℕ → Type 0
 Unfit reg slot = (slot ≡ 0) ⊎ (65535 < slot) ⊎ (65535 < reg)
 
--- a save: what is unfit gets 18 beside any number of pairs, so before a 33rd register gets 32
+-- a save: beside up to 32 pairs what is unfit gets 18, so before a 33rd register gets 32
 pub record SaveFaults (st : State) (reg slot : ℕ) : Type 0 where
   pub overfull : (changed (save st reg slot) ≡ Refused 28) ↔ (32 < st .count)
   pub unfit : (changed (save st reg slot) ≡ Refused 18) ↔ ((st .count ≤ 32) × Unfit reg slot)

@@ -61,7 +61,7 @@ raiseOf (Answer (Search.Chosen number sp)) = raise.Chosen number sp
 raiseOf (Answer Search.Stopped) = raise.Stopped
 raiseOf (Answer Search.Ended) = raise.Ended
 
--- document 01's number and values for each case: 6 with the chosen frame's number and sp, 3, 5, or a refusal's number
+-- the papers' number and values for each case: 6 with the chosen frame's number and sp, 3, 5, or a refusal's number
 abbrev pub raiseTold : RaiseAnswer → Outcome Coded
 raiseTold (raise.Chosen number sp) = Answer (coded 6 (number ∷ sp ∷ []))
 raiseTold raise.Stopped = Answer (coded 3 [])
@@ -79,7 +79,7 @@ resumeOf (Answer (Cleanup.Install number file next)) = resume.Install number
 resumeOf (Answer Cleanup.Fatal) = resume.Fatal
 resumeOf (Answer Cleanup.Finished) = resume.Finished
 
--- document 01's number and values for each case, with the file beside it: 7 with the frame's number and the file at its pad, 2, finished,
+-- the papers' number and values for each case, with the file beside it: 7 with the frame's number and the file at its pad, 2, finished,
 -- which has no number there and is 0 here, or a refusal's number
 abbrev pub resumeTold : ResumeAnswer → List ℕ → Outcome Coded
 resumeTold (resume.Install number) file = Answer (coded 7 (number ∷ file))

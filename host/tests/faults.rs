@@ -3,7 +3,7 @@
 //! replaces.
 mod asked;
 
-use asked::probe;
+use asked::{hex, probe};
 
 const AARCH64: u8 = 1;
 const X86_64: u8 = 2;
@@ -27,10 +27,6 @@ fn holds(arch: u8, cases: &[Case]) {
     for ((request, due), said) in cases.iter().zip(said) {
         assert_eq!(&said, due, "architecture {arch}: {request}");
     }
-}
-
-fn hex(bytes: &[u8]) -> String {
-    if bytes.is_empty() { "-".to_string() } else { bytes.iter().map(|byte| format!("{byte:02x}")).collect() }
 }
 
 /// A register file of zeros with a pc.

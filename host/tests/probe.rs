@@ -3,6 +3,7 @@ mod asked;
 #[allow(dead_code)]
 mod common;
 
+use asked::hex;
 use common::{EXCEPTION, FIRST, SECTION, STACK, ret, section, stack};
 
 const CLEANUP: &[u8] = &[0x00, 1, 5, 4 * 8];
@@ -14,10 +15,6 @@ const TWICE: &[u8] = &[0x00, 2, 5, 4 * 8, 0, 4 * 8];
 /// What the probe for x86-64 answers to each line.
 fn probe(lines: &[String]) -> Vec<String> {
     asked::probe(2, lines)
-}
-
-fn hex(bytes: &[u8]) -> String {
-    bytes.iter().map(|byte| format!("{byte:02x}")).collect()
 }
 
 /// A file in which each register has its own value, but for these.

@@ -13,3 +13,8 @@ pub fn probe(arch: u8, lines: &[String]) -> Vec<String> {
     writer.join().unwrap();
     said.lines().map(str::to_string).collect()
 }
+
+/// Bytes as a request has them: `-` for none.
+pub fn hex(bytes: &[u8]) -> String {
+    if bytes.is_empty() { "-".to_string() } else { bytes.iter().map(|byte| format!("{byte:02x}")).collect() }
+}

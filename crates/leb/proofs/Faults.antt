@@ -1,11 +1,10 @@
 -- A byte and a number that are not read have the numbers of specs/Faults.antt, each exactly where it says. Assumes nothing.
 use mathlib.Core.Path.{_≡_, refl, sym, _∙_, ap}
 use mathlib.Core.Logic.{_⊎_, inl, inr}
-use Prim.Native.Nat.{ℕ, _≤_, _<_}
+use Prim.Native.Nat.{ℕ}
 use native.Mathlib.Omega.{arith}
 use Rattle.failure.specs.Outcome.{Refused}
 use Rattle.mem.specs.Memory.{Memory, Bytes}
-use Rattle.mem.specs.Word.{load}
 use Rattle.leb.specs.declared.Byte.{Byte}
 use Rattle.leb.specs.declared.Byte.the-variants as byte
 use Rattle.leb.specs.declared.Uleb.{Uleb}

@@ -23,14 +23,12 @@ use Rattle.leb.proofs.Told.{uleb-told}
 use Rattle.leb.proofs.Faults.{number-faults}
 use Rattle.state.specs.declared.State.{State}
 use Rattle.state.specs.Save.{Done, save}
-use Rattle.state.specs.Restore.{restore}
 use Rattle.state.specs.Answers.{changed}
-use Rattle.state.specs.Faults.{Beyond32, Unfit, SaveFaults, RestoreFaults}
+use Rattle.state.specs.Faults.{Unfit, SaveFaults, RestoreFaults}
 use Rattle.state.proofs.Restore.{entry-small}
 use Rattle.state.proofs.Proper.{Proper, entry-proper, save-proper}
 use Rattle.state.proofs.Faults.{save-faults, restore-faults}
 use Rattle.program.specs.declared.decode.Rule.{Rule}
-use Rattle.program.specs.declared.decode.Rule.the-variants as rule
 use Rattle.program.specs.declared.decode.Rule.the-variants.{Units, Sp, Fp, Save, Restore, Entry, Frame, FrameRegs}
 use Rattle.program.specs.declared.decode.Op.{Op}
 use Rattle.program.specs.declared.decode.Op.the-variants.{End, Advance, Set, Remember, Recall}
@@ -42,7 +40,7 @@ use Rattle.program.specs.Run.{Stand, On, Ends, Refused, maxRemember, rec
 use Rattle.program.specs.Faults.{Comes, first, later, NumberAt, single, of-register, of-slot, CutAt, BadNumberAt, FrameBeyond32, Saves33rd, Saves33rdAt, RunFaults, ProgramFaults}
 use Rattle.program.proofs.Decoding.{slotAt, decode-byte, decode-limit, rest-number-refused, rest-reg-refused, rest-slot-refused}
 use Rattle.program.proofs.Proper.{done, cfa-proper, Stands, Leaves, act-leaves}
-use Rattle.program.proofs.Stops.{Stops, unread, undone, Stopped, stops-run, run-stops}
+use Rattle.program.proofs.Stops.{Stops, unread, undone, stops-run, run-stops}
 
 -- two numbers of a refusal are one
 one : {A : Type 0} (k n : ℕ) → _≡_ {A = Outcome A} (Outcome.Refused k) (Outcome.Refused n) → k ≡ n

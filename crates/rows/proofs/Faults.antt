@@ -2,7 +2,7 @@
 use mathlib.Core.Path.{_≡_, refl, sym, _∙_, ap}
 use mathlib.Core.Bool.{Bool, true, false}
 use mathlib.Core.Logic.{_≢_}
-use Prim.Native.Nat.{ℕ, zero, suc, _+_, _/_, _%_, _<_, _≤_}
+use Prim.Native.Nat.{ℕ, zero, suc, _+_, _/_, _%_}
 use native.Mathlib.Omega.{arith}
 use lib.Dec.{eqb, ltb}
 use borrow.Author.Tests.{eq-eqb, ne-eqb, le-ltb, eqb-true, eqb-false, ltb-false}
@@ -10,11 +10,11 @@ use Rattle.failure.specs.Choice.{if_then_else_}
 use Rattle.failure.specs.Outcome.{Outcome, Refused, Answer, _>>=_}
 use Rattle.failure.specs.Failure.{BadEkoRecord, EkoAmbiguousCallSite}
 use Rattle.mem.specs.Memory.{Memory, Bytes}
-use Rattle.leb.specs.Reader.{Read, ulebAt, numbered, readNumber}
+use Rattle.leb.specs.Reader.{Read, readNumber}
 use Rattle.leb.specs.Faults.{NumberFaults}
 use Rattle.leb.proofs.Told.{uleb-told}
 use Rattle.leb.proofs.Faults.{number-faults}
-use Rattle.rows.specs.Row.{Found, None, Pad, valid, checked}
+use Rattle.rows.specs.Row.{None, Pad, valid, checked}
 use Rattle.rows.specs.Handler2.{uleb, nextDelta, matched, decide, rowsFrom, handler2}
 use Rattle.rows.specs.Faults.{Comes, first, later, Reads, count, delta, word, peeked, TableFaults, RowFaults}
 use Rattle.rows.proofs.Rows2.{row-first, row-second, row-whole, matched-refused, rows-refused, rows-read}

@@ -1,12 +1,12 @@
 -- A save and a restore that are refused have the numbers of specs/Faults.antt, each exactly where it says. Assumes nothing.
 use mathlib.Core.Path.{_≡_, refl, sym, _∙_, ap}
 use mathlib.Core.Bool.{Bool, true, false}
-use mathlib.Core.Logic.{_⊎_, inl, inr, _↔_, _≢_}
+use mathlib.Core.Logic.{inl, inr, _≢_}
 use Prim.Native.Nat.{ℕ, _≤_, _<_}
 use native.Mathlib.Omega.{arith}
 use lib.Dec.{eqb, ltb}
 use borrow.Author.Tests.{ltb-true, ltb-false, eqb-true, eqb-false}
-use Rattle.failure.specs.Outcome.{Outcome, Refused, Answer}
+use Rattle.failure.specs.Outcome.{Refused}
 use Rattle.arch.specs.Arch.{Arch, numbers}
 use Rattle.arch.specs.Answers.{inCode}
 use Rattle.state.specs.declared.State.{State}

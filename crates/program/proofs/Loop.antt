@@ -17,7 +17,7 @@ use Rattle.mem.specs.Memory.{Memory}
 use Rattle.arch.specs.Arch.{Arch, numbers}
 use Rattle.arch.proofs.Arch.{of-both}
 use Rattle.state.specs.declared.State.{State}
-use Rattle.state.specs.State.{entry}
+use Rattle.state.specs.State.{entry, stateOf}
 use Rattle.program.specs.declared.decode.Op.{Op}
 use Rattle.program.specs.declared.decode.Op.the-variants.{End, Advance, Set, Remember, Recall}
 use Rattle.program.specs.declared.decode.Rule.{Rule}
@@ -245,9 +245,15 @@ module _ (st : State) (states : List State) (depth at : ℕ) where
       ap (λ (l : List State). On (record { state = st; remembered = l; at = at })) (sym (kept-more depth states st (omega arith)))
 
   pub step-recall :
-      (depth ≡ 0 → ⊥) →
-      stepped step.Recall st (kept depth states) at ≡ On (standAt (getD states (depth - 1) nothing) states (depth - 1) at)
-  step-recall e = rw (kept-less depth states e)
+      (depth ≡ 0 → ⊥) → (last : State) → last ≡ getD states (depth - 1) nothing →
+      stepped step.Recall st (kept depth states) at ≡ On (standAt last states (depth - 1) at)
+  step-recall e last same = rw (kept-less depth states e, same)
+
+-- a state whose pairs were put in place
+pub put-state :
+    (st : State) (regs slots : List ℕ) → regs ≡ st .regs → slots ≡ st .slots →
+    stateOf (st .«cfa_fp») (st .«cfa_units») (st .count) regs slots ≡ st
+put-state st regs slots e f = rw (e, f)
 
 -- the first run: it has ended where the second passed its offset, or stands where the second does
 abbrev pub First : Memory → Arch → ℕ → ℕ → ℕ → Bool → State → State → List State → ℕ → ℕ → ℕ → Type 0
@@ -273,11 +279,11 @@ module _ (m : Memory) (a : Arch) (program limit off last : ℕ) (lower : off ≤
   both-0 st e z = rw (sym (run-0 m a program limit off st e z), sym (run-0 m a program limit last st e z))
 
   pub both-begin :
-      (st : State) (states : List State) → st ≡ entry a → length states ≡ maxRemember → (program ≡ 0 → ⊥) →
-      Both m a program limit off last false st st states 0 0 program
-  both-begin st states e room some =
+      (keep st : State) (states : List State) → keep ≡ entry a → st ≡ entry a → length states ≡ maxRemember → (program ≡ 0 → ⊥) →
+      Both m a program limit off last false keep st states 0 0 program
+  both-begin keep st states k e room some =
       record {
-        first = (e, sofar-begin m a program limit off st states e room some);
+        first = (k, sofar-begin m a program limit off st states e room some);
         second = sofar-begin m a program limit last st states e room some;
       }
 

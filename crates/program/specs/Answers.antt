@@ -65,8 +65,15 @@ abbrev pub ended : State → Outcome Ran → Ended
 ended entry (Outcome.Refused n) = record { status = status.Refused n; state = entry; after = 0 }
 ended entry (Answer r) = record { status = status.Done; state = r .state; after = r .after }
 
--- two runs as the code hands them back together: the status and the state of the first, the status and the after-address of the second
-abbrev pub through : State → Outcome Ran → Outcome Ran → Through
+-- two runs together: the status and the state of the first, the status and the after-address of the second
+pub record Runs : Type 0 where
+  pub status : Status
+  pub state : State
+  pub end : Status
+  pub after : ℕ
+
+-- as the code hands them back
+abbrev pub through : State → Outcome Ran → Outcome Ran → Runs
 through entry x y =
     record {
       status = ended entry x .status;
@@ -75,11 +82,16 @@ through entry x y =
       after = ended entry y .after;
     }
 
+-- where the pairs of the state are in place
+abbrev pub throughIn : Through → List ℕ → List ℕ → Runs
+throughIn t regs slots =
+    record { status = t .status; state = stateOf (t .fp) (t .units) (t .count) regs slots; end = t .end; after = t .after }
+
 -- two runs that were not refused: the state of the first, the after-address of the second
-abbrev pub finished : State → ℕ → Through
+abbrev pub finished : State → ℕ → Runs
 finished st after = record { status = status.Done; state = st; end = status.Done; after = after }
 
 -- two runs, the second of which was refused, after the first had ended or before
-abbrev pub stopped : Bool → State → ℕ → Through
+abbrev pub stopped : Bool → State → ℕ → Runs
 stopped true st n = record { status = status.Done; state = st; end = status.Refused n; after = 0 }
 stopped false st n = record { status = status.Refused n; state = st; end = status.Refused n; after = 0 }

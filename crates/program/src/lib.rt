@@ -18,7 +18,7 @@ ghost use Rattle.program.specs.Near.{Near};
 ghost use Rattle.program.specs.Rule as Rules;
 ghost use Rattle.program.specs.Run as Run;
 ghost use Rattle.program.specs.Public as Public;
-ghost use Rattle.program.specs.Answers.{decoded, followed, stepped, Room, finished, stopped, ended, through};
+ghost use Rattle.program.specs.Answers.{decoded, followed, stepped, Room, finished, stopped, ended, through, throughIn};
 use arch::is_known;
 use arch::numbers;
 use decode::Decoded;
@@ -66,11 +66,13 @@ pub struct Ended {
     pub after: usize,
 }
 
-// What two runs give, one up to an offset and one up to the same or a later one: the status and the state of the first, and the
-// status and the after-address of the second.
+// What two runs give, one up to an offset and one up to the same or a later one: the status of the first, and the base, units and
+// count of its state, whose pairs are in place; the status and the after-address of the second.
 pub struct Through {
     pub status: Status,
-    pub state: State,
+    pub fp: bool,
+    pub units: u32,
+    pub count: usize,
     pub end: Status,
     pub after: usize,
 }
@@ -377,33 +379,61 @@ fn act<'a, 'b>(
     }
 }
 
-// Two runs that were not refused: the state of the first, the after-address of the second.
-fn done(state: State, after: usize) -> Through
-    ensures { λ r. ⌜ r ≡ finished state after ⌝ }
+// The pairs of a state, put in place.
+fn put<'a, 'b>(state: State, regs: &'a mut [u16; 32], slots: &'b mut [u16; 32])
+    ensures { λ _. ⌜ (now (regs .exit) ≡ state .regs) × (now (slots .exit) ≡ state .slots) ⌝ }
 {
+    let state_regs = state.regs;
+    let state_slots = state.slots;
+    *regs = state_regs;
+    *slots = state_slots;
+}
+
+// Two runs that were not refused: the first one's state, whose pairs are put in place, and the after-address of the second.
+fn done<'a, 'b>(state: State, after: usize, regs: &'a mut [u16; 32], slots: &'b mut [u16; 32]) -> Through
+    ensures { λ r. ⌜ throughIn r (now (regs .exit)) (now (slots .exit)) ≡ finished state after ⌝ }
+{
+    put(state, regs, slots);
     Through {
         status: Status::Done,
-        state,
+        fp: state.cfa_fp,
+        units: state.cfa_units,
+        count: state.count,
         end: Status::Done,
         after,
     }
 }
 
-// Two runs, the second of which was refused: past the first offset, where the first had ended with the kept state, or before it.
-fn refused(kept: State, passed: bool, n: u32) -> Through
-    ensures { λ r. ⌜ r ≡ stopped passed kept n ⌝ }
+// Two runs, the second of which was refused: past the first offset, where the first had ended with the kept state, or before it. The
+// kept state's pairs are put in place.
+fn refused<'a, 'b>(
+    kept: State,
+    passed: bool,
+    n: u32,
+    regs: &'a mut [u16; 32],
+    slots: &'b mut [u16; 32],
+) -> Through
+    ensures { λ r. ⌜ throughIn r (now (regs .exit)) (now (slots .exit)) ≡ stopped passed kept n ⌝ }
 {
+    put(kept, regs, slots);
+    let fp = kept.cfa_fp;
+    let units = kept.cfa_units;
+    let count = kept.count;
     if passed {
         return Through {
             status: Status::Done,
-            state: kept,
+            fp,
+            units,
+            count,
             end: Status::Refused(n),
             after: 0,
         };
     }
     Through {
         status: Status::Refused(n),
-        state: kept,
+        fp,
+        units,
+        count,
         end: Status::Refused(n),
         after: 0,
     }
@@ -474,9 +504,9 @@ fn operation_at<'a>(
     }
 }
 
-// Two runs of the program at an address in one: the state at an offset, and the end at the same or a later one. Program 0 is
-// the entry state everywhere.
-fn run_both<'a>(
+// Two runs of the program at an address in one: the state at an offset, whose pairs are in place, and the end at the same or a later
+// one. Program 0 is the entry state everywhere. All runs go through this one function, so that the compiler puts its parts into it.
+fn run_both<'a, 'b, 'c>(
     section: &'a [u8],
     section_base: usize,
     stack: &'a [u8],
@@ -486,10 +516,12 @@ fn run_both<'a>(
     limit: usize,
     off: usize,
     last: usize,
+    regs: &'b mut [u16; 32],
+    slots: &'c mut [u16; 32],
 ) -> Through
     requires { ⌜ off ≤ last ⌝ }
     ensures { λ r. ⌜
-        r ≡
+        throughIn r (now (regs .exit)) (now (slots .exit)) ≡
         through (entry (numbers arch))
         (Run.run (lent (now (section .entry)) «section_base» (now (stack .entry)) «stack_base» .regions) (numbers arch) program limit off)
         (Run.run (lent (now (section .entry)) «section_base» (now (stack .entry)) «stack_base» .regions) (numbers arch) program limit last)
@@ -498,14 +530,13 @@ fn run_both<'a>(
     // the state at the offset, once the run has passed it, and the entry state until then
     let mut kept = at_entry(arch);
     if program == 0 {
-        return done(kept, 0);
+        return done(kept, 0, regs, slots);
     }
     let mut passed = false;
     let mut fp = kept.cfa_fp;
     let mut units = kept.cfa_units;
     let mut count = kept.count;
-    let mut regs = kept.regs;
-    let mut slots = kept.slots;
+    put(kept, regs, slots);
     let mut remembered = [kept; 4];
     let mut depth: usize = 0;
     let mut at: usize = 0;
@@ -515,19 +546,7 @@ fn run_both<'a>(
         match operation_at(section, section_base, stack, stack_base, pos, limit, end) {
             Decoded::Is(op, next) => {
                 pos = next;
-                let acted = act(
-                    &mut regs,
-                    &mut slots,
-                    count,
-                    fp,
-                    units,
-                    depth,
-                    at,
-                    arch,
-                    last,
-                    next,
-                    op,
-                );
+                let acted = act(regs, slots, count, fp, units, depth, at, arch, last, next, op);
                 fp = acted.fp;
                 units = acted.units;
                 count = acted.count;
@@ -542,8 +561,8 @@ fn run_both<'a>(
                                     cfa_fp: fp,
                                     cfa_units: units,
                                     count,
-                                    regs,
-                                    slots,
+                                    regs: *regs,
+                                    slots: *slots,
                                 };
                             }
                         }
@@ -554,8 +573,8 @@ fn run_both<'a>(
                             cfa_fp: fp,
                             cfa_units: units,
                             count,
-                            regs,
-                            slots,
+                            regs: *regs,
+                            slots: *slots,
                         };
                         depth += 1;
                     }
@@ -565,30 +584,99 @@ fn run_both<'a>(
                         fp = st.cfa_fp;
                         units = st.cfa_units;
                         count = st.count;
-                        regs = st.regs;
-                        slots = st.slots;
+                        put(st, regs, slots);
                     }
                     Step::Ends(after) => {
                         if passed {
-                            break 'ops done(kept, after);
+                            break 'ops done(kept, after, regs, slots);
                         }
-                        break 'ops done(
-                            State {
-                                cfa_fp: fp,
-                                cfa_units: units,
-                                count,
-                                regs,
-                                slots,
-                            },
+                        break 'ops Through {
+                            status: Status::Done,
+                            fp,
+                            units,
+                            count,
+                            end: Status::Done,
                             after,
-                        );
+                        };
                     }
-                    Step::Refused(n) => break 'ops refused(kept, passed, n),
+                    Step::Refused(n) => break 'ops refused(kept, passed, n, regs, slots),
                 }
             }
-            Decoded::Refused(n) => break 'ops refused(kept, passed, n),
+            Decoded::Refused(n) => break 'ops refused(kept, passed, n, regs, slots),
         }
     }
+}
+
+// A run of the program at an address up to an offset, as in `run_program`; the pairs of its state are in place.
+pub fn run_into<'a, 'b, 'c>(
+    section: &'a [u8],
+    section_base: usize,
+    stack: &'a [u8],
+    stack_base: usize,
+    arch: u8,
+    program: usize,
+    limit: usize,
+    off: usize,
+    regs: &'b mut [u16; 32],
+    slots: &'c mut [u16; 32],
+) -> Through
+    ensures { λ r. ⌜
+        throughIn r (now (regs .exit)) (now (slots .exit)) ≡
+        through (entry (numbers arch))
+        (Run.run (lent (now (section .entry)) «section_base» (now (stack .entry)) «stack_base» .regions) (numbers arch) program limit off)
+        (Run.run (lent (now (section .entry)) «section_base» (now (stack .entry)) «stack_base» .regions) (numbers arch) program limit off)
+        ⌝ }
+{
+    run_both(
+        section,
+        section_base,
+        stack,
+        stack_base,
+        arch,
+        program,
+        limit,
+        off,
+        off,
+        regs,
+        slots,
+    )
+}
+
+// Two runs of the program at an address in one pass: the status and the state of the one up to an offset, whose pairs are in place, and
+// the status and the after-address of the one through all offsets.
+pub fn run_through<'a, 'b, 'c>(
+    section: &'a [u8],
+    section_base: usize,
+    stack: &'a [u8],
+    stack_base: usize,
+    arch: u8,
+    program: usize,
+    limit: usize,
+    off: usize,
+    regs: &'b mut [u16; 32],
+    slots: &'c mut [u16; 32],
+) -> Through
+    ensures { λ r. ⌜
+        throughIn r (now (regs .exit)) (now (slots .exit)) ≡
+        through (entry (numbers arch))
+        (Run.run (lent (now (section .entry)) «section_base» (now (stack .entry)) «stack_base» .regions) (numbers arch) program limit off)
+        (Run.run (lent (now (section .entry)) «section_base» (now (stack .entry)) «stack_base» .regions) (numbers arch) program limit
+        (2 ^ 64 - 1))
+        ⌝ }
+{
+    run_both(
+        section,
+        section_base,
+        stack,
+        stack_base,
+        arch,
+        program,
+        limit,
+        off,
+        usize::MAX,
+        regs,
+        slots,
+    )
 }
 
 // A run of the program at an address up to an offset; program 0 is the entry state everywhere.
@@ -608,7 +696,9 @@ pub fn run_program<'a>(
         (Run.run (lent (now (section .entry)) «section_base» (now (stack .entry)) «stack_base» .regions) (numbers arch) program limit off)
         ⌝ }
 {
-    let both = run_both(
+    let mut regs = [0; 32];
+    let mut slots = [0; 32];
+    let ran = run_into(
         section,
         section_base,
         stack,
@@ -617,48 +707,21 @@ pub fn run_program<'a>(
         program,
         limit,
         off,
-        off,
+        &mut regs,
+        &mut slots,
     );
-    let status = both.status;
-    let state = both.state;
+    let status = ran.status;
     Ended {
         status,
-        state,
-        after: both.after,
+        state: State {
+            cfa_fp: ran.fp,
+            cfa_units: ran.units,
+            count: ran.count,
+            regs,
+            slots,
+        },
+        after: ran.after,
     }
-}
-
-// Two runs of the program at an address in one pass: the status and the state of the one up to an offset, and the status and the
-// after-address of the one through all offsets.
-pub fn run_through<'a>(
-    section: &'a [u8],
-    section_base: usize,
-    stack: &'a [u8],
-    stack_base: usize,
-    arch: u8,
-    program: usize,
-    limit: usize,
-    off: usize,
-) -> Through
-    ensures { λ r. ⌜
-        r ≡
-        through (entry (numbers arch))
-        (Run.run (lent (now (section .entry)) «section_base» (now (stack .entry)) «stack_base» .regions) (numbers arch) program limit off)
-        (Run.run (lent (now (section .entry)) «section_base» (now (stack .entry)) «stack_base» .regions) (numbers arch) program limit
-        (2 ^ 64 - 1))
-        ⌝ }
-{
-    run_both(
-        section,
-        section_base,
-        stack,
-        stack_base,
-        arch,
-        program,
-        limit,
-        off,
-        usize::MAX,
-    )
 }
 
 // A run of the program at an address up to an offset, in what is lent. For an unknown architecture the entry state is that of

@@ -20,8 +20,7 @@ use Rattle.personality.specs.Reason.{rowless, offsetIn, rowAfter, rowOf}
 use Rattle.personality.proofs.Reasons.{row-none, row-2, after-run, after-refused}
 use Rattle.state.specs.declared.State.{State}
 use Rattle.program.specs.Run.{Ran, run}
-use Rattle.program.specs.Answers.{ended, through}
-use Rattle.program.specs.declared.Through.{Through}
+use Rattle.program.specs.Answers.{ended, Runs, through}
 use Rattle.rows.specs.Handler2.{handler2}
 use Rattle.program.specs.declared.Status.the-variants as ending
 use Rattle.frame.specs.Layout.{layout}
@@ -34,7 +33,7 @@ use Rattle.unwind.specs.declared.Walked.the-variants as walked
 use Rattle.unwind.specs.declared.Located.{Located}
 use Rattle.unwind.specs.declared.Met.{Met}
 use Rattle.unwind.specs.declared.Met.the-variants as met
-use Rattle.unwind.proofs.Walks.{recordIn, step-by-record, record-bounds, by-run, by-run-refused, caller-2}
+use Rattle.unwind.proofs.Walks.{pairsOf, recordIn, step-by-record, record-bounds, by-run, by-run-refused, caller-2}
 
 module _ (arch : ℕ) (l : Lent) (f : Frame) (x v : Located) (e : located x ≡ recordIn arch l f) (p : x ≡ v) where
   -- the frame step, by the record that was located
@@ -97,14 +96,14 @@ module _ (arch : ℕ) (l : Lent) (f : Frame) (r : Record) (at : ℕ) (q : at ≡
       by-row (row.Refused n) = refl
 
 -- what two runs in one pass say, where the record's version is 2
-module _ (a : Arch) (m : Memory) (r : Record) (entry : State) (off : ℕ) (t : Through)
+module _ (a : Arch) (m : Memory) (r : Record) (entry : State) (off : ℕ) (t : Runs)
     (e : t ≡ through entry (run m a (r .program) (r .limit) off) (run m a (r .program) (r .limit) (2 ^ 64 - 1))) where
   -- the row after the program's END
   pub row-through : (interrupted : Bool) (at : ℕ) → rowless interrupted r at ≡ false → r .version ≡ 2 → (o : Outcome Found) →
       o ≡ rowPast m (t .end) (t .after) (r .limit) (offsetIn r at) → o ≡ rowOf a m interrupted r at
   row-through interrupted at h v o p =
       row-2 a m interrupted r at h v o
-      (p ∙ ap (λ (x : Through). rowPast m (x .end) (x .after) (r .limit) (offsetIn r at)) e
+      (p ∙ ap (λ (x : Runs). rowPast m (x .end) (x .after) (r .limit) (offsetIn r at)) e
       ∙ go (run m a (r .program) (r .limit) (2 ^ 64 - 1)) refl)
     where
       go : (y : Outcome Ran) → run m a (r .program) (r .limit) (2 ^ 64 - 1) ≡ y →
@@ -114,21 +113,21 @@ module _ (a : Arch) (m : Memory) (r : Record) (entry : State) (off : ℕ) (t : T
 
   module _ (interrupted : Bool) (at : ℕ) (file : List ℕ) (v : r .version ≡ 2) (d : off ≡ at - r .start) where
     -- the caller's registers, by the state at the offset
-    pub state-through : t .status ≡ ending.Done → apply a m (layout (t .state)) file ≡ callerFile a m interrupted r at file
+    pub state-through : t .status ≡ ending.Done → apply a m (pairsOf (t .state)) file ≡ callerFile a m interrupted r at file
     state-through p =
-        ap (λ (x : Through). apply a m (layout (x .state)) file) e
-        ∙ go (run m a (r .program) (r .limit) off) refl (sym (ap (λ (x : Through). x .status) e) ∙ p)
+        ap (λ (x : Runs). apply a m (pairsOf (x .state)) file) e
+        ∙ go (run m a (r .program) (r .limit) off) refl (sym (ap (λ (x : Runs). x .status) e) ∙ p)
         ∙ caller-2 a m interrupted r at file v off d
       where
         go : (x : Outcome Ran) → run m a (r .program) (r .limit) off ≡ x → ended entry x .status ≡ ending.Done →
-            apply a m (layout (ended entry x .state)) file ≡ callerByRun a m (r .program) (r .limit) off file
+            apply a m (pairsOf (ended entry x .state)) file ≡ callerByRun a m (r .program) (r .limit) off file
         go (Outcome.Refused n) q k = let z : _≡_ {A = ℕ} 0 1 = cc in absurd (omega arith)
         go (Answer ran) q k = by-run a m (r .program) (r .limit) off file ran q
 
     -- unless that run is refused
     pub refused-through : (n : ℕ) → t .status ≡ ending.Refused n → Outcome.Refused n ≡ callerFile a m interrupted r at file
     refused-through n p =
-        go (run m a (r .program) (r .limit) off) refl (sym (ap (λ (x : Through). x .status) e) ∙ p)
+        go (run m a (r .program) (r .limit) off) refl (sym (ap (λ (x : Runs). x .status) e) ∙ p)
         ∙ caller-2 a m interrupted r at file v off d
       where
         go : (x : Outcome Ran) → run m a (r .program) (r .limit) off ≡ x → ended entry x .status ≡ ending.Refused n →

@@ -21,8 +21,11 @@ use Rattle.arch.specs.declared.Status.the-variants as status
 use Rattle.lookup.specs.declared.Record.{Record}
 use Rattle.lookup.specs.declared.Lookup.{Lookup}
 use Rattle.lookup.specs.Lookup.{lookup, looked}
+use Rattle.state.specs.declared.State.{State}
 use Rattle.program.specs.Run.{Ran, run}
-use Rattle.frame.specs.Layout.{layout}
+use Rattle.program.proofs.Proper.{run-proper}
+use Rattle.frame.specs.Layout.{Layout, layout, lentLayout}
+use Rattle.frame.proofs.LentLayout.{lent-layout}
 use Rattle.frame.specs.Apply.{apply}
 use Rattle.frame.specs.Step.{step}
 use Rattle.model.specs.FrameStep as Walk
@@ -34,12 +37,18 @@ pub in-place-told : (entry : List ℕ) (o : Outcome (List ℕ)) (s : Status) (ex
 in-place-told entry (Outcome.Refused n) s exit e = ap (λ (x : Status). fileTold x exit) (e .status)
 in-place-told entry (Answer file) s exit e = ap (λ (x : Status). fileTold x exit) (e .status) ∙ ap Answer (e .file)
 
+-- a state as `apply_into` is lent it
+abbrev pub pairsOf : State → Layout
+pairsOf st = lentLayout (st .«cfa_fp») (st .«cfa_units») (st .count) (st .regs) (st .slots)
+
 module _ (a : Arch) (m : Memory) (program limit off : ℕ) (file : List ℕ) where
   -- run, then apply
   pub by-run : (ran : Ran) → run m a program limit off ≡ Answer ran →
-      apply a m (layout (ran .state)) file ≡ callerByRun a m program limit off file
+      apply a m (pairsOf (ran .state)) file ≡ callerByRun a m program limit off file
   unfolding callerByRun
-  by-run ran p = rw p
+  by-run ran p =
+      let whole = run-proper m a limit off ran program p in
+      ap (λ (l : Layout). apply a m l file) (lent-layout (ran .state) (whole .regs) (whole .slots)) ∙ rw p
 
   -- unless run refuses
   pub by-run-refused : (n : ℕ) → run m a program limit off ≡ Outcome.Refused n →

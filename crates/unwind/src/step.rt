@@ -10,8 +10,6 @@ ghost use Rattle.mem.specs.Memory.{lent};
 ghost use Rattle.arch.specs.Arch.{numbers};
 ghost use Rattle.arch.specs.File as File;
 ghost use Rattle.rows.specs.Row.{found};
-ghost use Rattle.frame.specs.Layout.{layout};
-ghost use Rattle.frame.specs.Apply.{apply};
 ghost use Rattle.personality.specs.Reason.{rowless};
 ghost use Rattle.model.specs.FrameStep as Walk;
 ghost use Rattle.unwind.specs.Answers.{frameWith};
@@ -36,12 +34,11 @@ use lookup::Record;
 use lookup::VERSION2;
 use lookup::lookup_part;
 use personality::rowless;
-use program::run_program;
+use program::run_into;
 use program::run_through;
 use rows::Row;
 use rows::handler::handler_at;
 use rows::handler2::handler2_at;
-use state::State;
 
 // Looked up is pc - 1, or pc for an interrupted frame.
 fn looked_up(interrupted: bool, pc: usize) -> usize
@@ -64,38 +61,6 @@ fn offset_from(start: usize, at: usize) -> usize
     at - start
 }
 
-// The caller's registers from a state.
-fn caller_by_state<'a>(
-    section: &'a [u8],
-    section_base: usize,
-    stack: &'a [u8],
-    stack_base: usize,
-    arch: u8,
-    state: State,
-    file: &mut [usize; COLUMNS],
-) -> Status
-    ensures { λ r. ⌜
-        fileTold r (now (file .exit)) ≡
-        apply (numbers arch)
-        (lent (now (section .entry)) «section_base» (now (stack .entry)) «stack_base» .regions)
-        (layout state) (now (file .entry))
-        ⌝ }
-{
-    apply_into(
-        section,
-        section_base,
-        stack,
-        stack_base,
-        arch,
-        state.cfa_fp,
-        state.cfa_units,
-        state.count,
-        &state.regs,
-        &state.slots,
-        file,
-    )
-}
-
 // The caller's registers of version 2: by run, then apply.
 fn caller_by_run<'a>(
     section: &'a [u8],
@@ -115,7 +80,9 @@ fn caller_by_run<'a>(
         program limit off (now (file .entry))
         ⌝ }
 {
-    let ran = run_program(
+    let mut regs = [0; 32];
+    let mut slots = [0; 32];
+    let ran = run_into(
         section,
         section_base,
         stack,
@@ -124,16 +91,22 @@ fn caller_by_run<'a>(
         program,
         limit,
         off,
+        &mut regs,
+        &mut slots,
     );
     let status = ran.status;
     match status {
-        program::Status::Done => caller_by_state(
+        program::Status::Done => apply_into(
             section,
             section_base,
             stack,
             stack_base,
             arch,
-            ran.state,
+            ran.fp,
+            ran.units,
+            ran.count,
+            &regs,
+            &slots,
             file,
         ),
         program::Status::Refused(n) => Status::Refused(n),
@@ -343,6 +316,8 @@ fn meet_through<'a>(
         ⌝ }
 {
     let off = offset_from(record.start, looked_up(interrupted, pc));
+    let mut regs = [0; 32];
+    let mut slots = [0; 32];
     let ran = run_through(
         section,
         section_base,
@@ -352,19 +327,25 @@ fn meet_through<'a>(
         record.program,
         record.limit,
         off,
+        &mut regs,
+        &mut slots,
     );
     let status = ran.status;
     match status {
         program::Status::Done => {
             let k = sp_column(arch);
             let before = file[k];
-            let called = caller_by_state(
+            let called = apply_into(
                 section,
                 section_base,
                 stack,
                 stack_base,
                 arch,
-                ran.state,
+                ran.fp,
+                ran.units,
+                ran.count,
+                &regs,
+                &slots,
                 file,
             );
             match advancing(number, before, file[k], called) {

@@ -1,5 +1,6 @@
 //! The library against the Rust, x86-64: both in this process, on the same memory. The Rust is called as a crate, the library
 //! through its C interface; a line per case.
+mod cold;
 #[allow(dead_code)]
 #[path = "../src/raw.rs"]
 mod raw;
@@ -37,7 +38,14 @@ fn main() {
     personality();
     personality2();
     for version in [1, 2] {
-        [10, 100, 1_000].into_iter().for_each(|frames| throws::all(version, frames));
+        [10, 100, 1_000].into_iter().for_each(|frames| throws::all(version, frames, 1));
+    }
+    for version in [1, 2] {
+        [16, 64].into_iter().for_each(|chunks| throws::all(version, 100, chunks));
+    }
+    cold::head();
+    for version in [1, 2] {
+        [10, 100].into_iter().for_each(|frames| throws::all_cold(version, frames));
     }
 }
 

@@ -4,7 +4,7 @@ use ps_unwind::{arch, eko};
 use crate::timing::picks;
 use crate::{FP, address};
 
-/// How many functions a section has, each of 32 bytes.
+/// How many functions a section has, in all its chunks, each of 32 bytes.
 const FUNCTIONS: usize = 64;
 const LENGTH: usize = 32;
 
@@ -23,24 +23,29 @@ const WORD: u32 = eko::KIND_FP | 3 << 3 | 3 << 21;
 const PROGRAM: [u8; 17] = [0x01, 0xc9, 0x03, 0x83, 3, 0x8c, 4, 0x00, 4, 8, 4 * 24, 4, 4 * 26 + 1, 4, 4 * 27, 4, 4 * 28];
 const ROWS: [u32; 13] = [4, 8, 24, 0, 12, 26, 1, 16, 27, 0, 20, 28, 0];
 
-/// A chunk whose functions all have 4 rows, and where the first of them starts.
-pub fn section(version: u8) -> (Vec<u8>, usize) {
+/// A section of so many chunks, over which the functions are spread in order of address, and where the first of them starts. Every
+/// function has 4 rows.
+pub fn section(version: u8, chunks: usize) -> (Vec<u8>, usize) {
+    let functions = FUNCTIONS / chunks;
     let stride = if version == 1 { 16 } else { 12 };
     let table: Vec<u8> = if version == 1 { ROWS.into_iter().flat_map(u32::to_le_bytes).collect() } else { PROGRAM.to_vec() };
-    let head = 16 + stride * FUNCTIONS;
-    let length = (head + table.len() * FUNCTIONS).next_multiple_of(4);
-    let mut bytes = Vec::with_capacity(length);
+    let head = 16 + stride * functions;
+    let size = (head + table.len() * functions).next_multiple_of(4);
+    let mut bytes = Vec::with_capacity(size * chunks);
     let first = address(&bytes) + 0x10_0000;
-    bytes.extend([0x45, 0x4b, 0x55, 0x57, version, 2, 1, 0]);
-    bytes.extend([FUNCTIONS as u32, length as u32].into_iter().flat_map(u32::to_le_bytes));
-    for i in 0..FUNCTIONS {
-        let relative = (first + LENGTH * i - address(&bytes) - bytes.len()) as u32;
-        let at = (head + table.len() * i) as u32;
-        let fields = if version == 1 { vec![WORD, at] } else { vec![at | 1 << 31] };
-        bytes.extend([relative, LENGTH as u32].into_iter().chain(fields).flat_map(u32::to_le_bytes));
+    for chunk in 0..chunks {
+        bytes.extend([0x45, 0x4b, 0x55, 0x57, version, 2, 1, 0]);
+        bytes.extend([functions as u32, size as u32].into_iter().flat_map(u32::to_le_bytes));
+        for i in 0..functions {
+            let start = first + LENGTH * (functions * chunk + i);
+            let relative = (start - address(&bytes) - bytes.len()) as u32;
+            let at = (head + table.len() * i) as u32;
+            let fields = if version == 1 { vec![WORD, at] } else { vec![at | 1 << 31] };
+            bytes.extend([relative, LENGTH as u32].into_iter().chain(fields).flat_map(u32::to_le_bytes));
+        }
+        bytes.extend(table.repeat(functions));
+        bytes.resize(size * (chunk + 1), 0);
     }
-    bytes.extend(table.repeat(FUNCTIONS));
-    bytes.resize(length, 0);
     (bytes, first)
 }
 

@@ -5,6 +5,7 @@ use ps_unwind::arch;
 use ps_unwind::eko::{self, Record};
 use ps_unwind::frame::{FrameInfo, Kind};
 
+use crate::cold;
 use crate::stacks::{bytes, section, stacks};
 use crate::timing::measure_over;
 use crate::{ANSWERED, NONE, PC_COLUMN, RawUnwinding, Regs, X86_64, address, file, raw};
@@ -20,29 +21,43 @@ const MOST_FRAMES: usize = 1024;
 /// A frame's number, pc and sp.
 type Place = (usize, usize, usize);
 
-/// A section, stacks with the registers of their innermost frames, and the same registers as we have them.
+/// A section, stacks with the registers of their innermost frames, and the same registers as we have them; and what a throw came
+/// to: the frame that the Rust chose, and our unwinding.
 struct Case {
     section: Vec<u8>,
     stacks: Vec<(Vec<usize>, arch::Regs)>,
     files: Vec<Regs>,
+    chosen: Vec<(usize, usize)>,
+    unwindings: Vec<RawUnwinding>,
 }
 
-/// A walk over so many frames, a throw that the outermost catches, and all its landings.
-pub fn all(version: u8, frames: usize) {
-    let (section, first) = section(version);
-    let stacks = stacks(frames, first);
-    let (inputs, again) = (stacks.len(), AGAIN.min(AGAIN_FRAMES / frames));
-    let files = stacks.iter().map(|(_, regs)| file(regs)).collect();
-    let case = Case { section, stacks, files };
-    let name = |what| format!("{what} {frames} frames, version {version}");
-    measure_over(inputs, again, &name("walk"), |i| case.rust_walk(i), |i| case.walk(i), |rust, ours| rust == ours);
-    measure_over(inputs, again, &name("raise"), |i| case.rust_raise(i), |i| case.raise(i), |rust, ours| {
-        (ours.status, ours.reason, ours.number, ours.sp) == (ANSWERED, URC_HANDLER_FOUND, rust.0, rust.1)
-    });
-    let chosen: Vec<_> = (0..inputs).map(|i| case.rust_raise(i)).collect();
-    let unwindings: Vec<_> = (0..inputs).map(|i| case.raise(i).unwinding).collect();
-    let rust = |i: usize| case.rust_resume(i, chosen[i]);
-    measure_over(inputs, again, &name("resume"), rust, |i| case.resume(i, unwindings[i]), |rust, ours| rust == ours);
+/// A walk over so many frames, a throw that the outermost catches, and all its landings, in a section of so many chunks.
+pub fn all(version: u8, frames: usize, chunks: usize) {
+    let case = Case::new(version, frames, chunks);
+    let (inputs, again) = (case.stacks.len(), AGAIN.min(AGAIN_FRAMES / frames));
+    let more = if chunks == 1 { String::new() } else { format!(", {chunks} chunks") };
+    let name = |what| format!("{what} {frames} frames, version {version}{more}");
+    measure_over(inputs, again, &name("walk"), |i| case.rust_walk(i), |i| case.walk(i), same_places);
+    measure_over(inputs, again, &name("raise"), |i| case.rust_raise(i), |i| case.raise(i), same_choice);
+    measure_over(inputs, again, &name("resume"), |i| case.rust_resume(i), |i| case.resume(i), same_places);
+}
+
+/// The same with nothing cached, in one chunk.
+pub fn all_cold(version: u8, frames: usize) {
+    let case = Case::new(version, frames, 1);
+    let inputs = case.stacks.len();
+    let name = |what| format!("cold {what} {frames} frames, version {version}");
+    cold::measure(inputs, &name("walk"), |i| case.rust_walk(i), |i| case.walk(i), same_places);
+    cold::measure(inputs, &name("raise"), |i| case.rust_raise(i), |i| case.raise(i), same_choice);
+    cold::measure(inputs, &name("resume"), |i| case.rust_resume(i), |i| case.resume(i), same_places);
+}
+
+fn same_places(rust: &Place, ours: &Place) -> bool {
+    rust == ours
+}
+
+fn same_choice(rust: &(usize, usize), ours: &raw::Raised) -> bool {
+    (ours.status, ours.reason, ours.number, ours.sp) == (ANSWERED, URC_HANDLER_FOUND, rust.0, rust.1)
 }
 
 fn place(number: usize, regs: &arch::Regs) -> Place {
@@ -55,6 +70,16 @@ fn told(so_far: Place, next: Place) -> Place {
 }
 
 impl Case {
+    fn new(version: u8, frames: usize, chunks: usize) -> Self {
+        let (section, first) = section(version, chunks);
+        let stacks = stacks(frames, first);
+        let files = stacks.iter().map(|(_, regs)| file(regs)).collect();
+        let mut case = Case { section, stacks, files, chosen: Vec::new(), unwindings: Vec::new() };
+        case.chosen = (0..case.stacks.len()).map(|i| case.rust_raise(i)).collect();
+        case.unwindings = (0..case.stacks.len()).map(|i| case.raise(i).unwinding).collect();
+        case
+    }
+
     /// The frame step: the record and the caller's registers, none past the last frame.
     fn rust_step(&self, number: usize, regs: &arch::Regs) -> Option<(Record, arch::Regs)> {
         if regs.pc == 0 {
@@ -94,7 +119,8 @@ impl Case {
     }
 
     /// All landings up to the chosen frame.
-    fn rust_resume(&self, i: usize, chosen: (usize, usize)) -> Place {
+    fn rust_resume(&self, i: usize) -> Place {
+        let chosen = self.chosen[i];
         let (mut regs, mut number, mut landings) = (self.stacks[i].1, 0, (0, 0, 0));
         while number <= chosen.0 {
             let (record, caller) = self.rust_step(number, &regs).expect("a frame up to the chosen one");
@@ -131,8 +157,8 @@ impl Case {
         lend!(eko_raise, &self.section, stack, X86_64, regs, regs.r[PC_COLUMN], false, EXCEPTION)
     }
 
-    fn resume(&self, i: usize, mut unwinding: RawUnwinding) -> Place {
-        let (stack, mut landings) = (bytes(&self.stacks[i].0), (0, 0, 0));
+    fn resume(&self, i: usize) -> Place {
+        let (stack, mut unwinding, mut landings) = (bytes(&self.stacks[i].0), self.unwindings[i], (0, 0, 0));
         loop {
             let next = lend!(eko_resume, &self.section, stack, X86_64, unwinding);
             if next.status != ANSWERED {

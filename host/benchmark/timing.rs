@@ -24,7 +24,7 @@ pub fn head() {
 
 /// Checks that both answer every input alike, then prints the name and, for all inputs and for few of them again and again, the
 /// nanoseconds of a call of the Rust and of ours, and the first divided by the second. Each is called with the number of an input.
-/// Does nothing where the program was given a word that the name does not begin with.
+/// Does nothing where the line is not wanted.
 pub fn measure<R, O>(
     name: &str,
     rust: impl FnMut(usize) -> R,
@@ -43,17 +43,38 @@ pub fn measure_over<R, O>(
     mut ours: impl FnMut(usize) -> O,
     same: impl Fn(&R, &O) -> bool,
 ) {
-    if std::env::args().nth(1).is_some_and(|word| !name.starts_with(&word)) {
+    if !wanted(name) {
         return;
     }
+    compare(inputs, name, &mut rust, &mut ours, same);
+    let columns = [inputs, again].map(|inputs| {
+        let (theirs, own) = least(&mut rust, &mut ours, inputs);
+        column(theirs, own)
+    });
+    println!("{name:<46} {}", columns.join("   "));
+}
+
+/// Whether a line of this name is to be timed: not where the program was given a word that the name does not begin with.
+pub fn wanted(name: &str) -> bool {
+    std::env::args().nth(1).is_none_or(|word| name.starts_with(&word))
+}
+
+/// Checks that both answer every input alike.
+pub fn compare<R, O>(
+    inputs: usize,
+    name: &str,
+    rust: &mut impl FnMut(usize) -> R,
+    ours: &mut impl FnMut(usize) -> O,
+    same: impl Fn(&R, &O) -> bool,
+) {
     for i in 0..inputs {
         assert!(same(&rust(i), &ours(i)), "{name}: the answers to input {i} differ");
     }
-    let columns = [inputs, again].map(|inputs| {
-        let (theirs, own) = least(&mut rust, &mut ours, inputs);
-        format!("{theirs:9.1} ns {own:10.1} ns {:6.2}x", theirs / own)
-    });
-    println!("{name:<46} {}", columns.join("   "));
+}
+
+/// The nanoseconds of the Rust and of ours, and the first divided by the second.
+pub fn column(theirs: f64, own: f64) -> String {
+    format!("{theirs:9.1} ns {own:10.1} ns {:6.2}x", theirs / own)
 }
 
 /// The least nanoseconds of a call of each, over so many inputs.

@@ -390,7 +390,12 @@ fn put<'a, 'b>(state: State, regs: &'a mut [u16; 32], slots: &'b mut [u16; 32])
 }
 
 // Two runs that were not refused: the first one's state, whose pairs are put in place, and the after-address of the second.
-fn done<'a, 'b>(state: State, after: usize, regs: &'a mut [u16; 32], slots: &'b mut [u16; 32]) -> Through
+fn done<'a, 'b>(
+    state: State,
+    after: usize,
+    regs: &'a mut [u16; 32],
+    slots: &'b mut [u16; 32],
+) -> Through
     ensures { λ r. ⌜ throughIn r (now (regs .exit)) (now (slots .exit)) ≡ finished state after ⌝ }
 {
     put(state, regs, slots);
@@ -546,7 +551,19 @@ fn run_both<'a, 'b, 'c>(
         match operation_at(section, section_base, stack, stack_base, pos, limit, end) {
             Decoded::Is(op, next) => {
                 pos = next;
-                let acted = act(regs, slots, count, fp, units, depth, at, arch, last, next, op);
+                let acted = act(
+                    regs,
+                    slots,
+                    count,
+                    fp,
+                    units,
+                    depth,
+                    at,
+                    arch,
+                    last,
+                    next,
+                    op,
+                );
                 fp = acted.fp;
                 units = acted.units;
                 count = acted.count;

@@ -2,10 +2,10 @@
 use mathlib.Core.Path.{_≡_, refl, sym, _∙_, ap, subst}
 use mathlib.Core.Bool.{Bool, true, false, not, _||_, or-true}
 use mathlib.Core.List.{List}
-use Prim.Native.Nat.{ℕ, suc, _+_, _-_, _*_, _%_, _≤_, _<_}
+use Prim.Native.Nat.{ℕ, zero, suc, _+_, _-_, _*_, _%_, _≤_, _<_}
 use native.Mathlib.Omega.{arith}
 use lib.Dec.{eqb, ltb}
-use lib.ListN.{length}
+use lib.ListN.{length, getD}
 use borrow.Author.Tests.{eq-eqb, ne-eqb, lt-ltb, le-ltb, eqb-true, eqb-false, ltb-false}
 use Rattle.failure.specs.Choice.{if_then_else_}
 use Rattle.mem.proofs.Tests.{leb-same}
@@ -15,6 +15,7 @@ use Rattle.lookup.specs.Steps.{Inside}
 use Rattle.lookup.specs.declared.Chunk.{Chunk}
 use Rattle.lookup.specs.declared.Head.{Head}
 use Rattle.lookup.specs.declared.Head.the-variants.{Padding, Fault, Here}
+use Rattle.lookup.proofs.Fields.{word-none, word-more}
 
 -- neither test of a disjunction holds
 neither : (s t : Bool) → (s || t) ≡ false → (s ≡ false) × (t ≡ false)
@@ -23,6 +24,12 @@ neither true t e = (e, absurd-true e)
     absurd-true : true ≡ false → t ≡ false
     absurd-true p = cc
 neither false t e = (refl, e)
+
+-- what stands above a byte
+higher : (n b a : ℕ) → b < 256 → a < 256 → b + 256 * n ≡ a + 256 → n ≡ 1
+higher zero b a h g e = absurd (omega arith)
+higher (suc zero) b a h g e = refl
+higher (suc (suc n)) b a h g e = absurd (omega arith)
 
 -- a record has at most 16 bytes
 pub stride-small : (v : ℕ) → stride v ≤ 16
@@ -49,6 +56,11 @@ pub chunk-made : (bytes : List ℕ) (k v t n z : ℕ) → v ≡ word bytes (k + 
     record { offset = k; version = v; stride = t; count = n; size = z } ≡ chunkAt bytes k
 unfolding chunkAt
 chunk-made bytes k v t n z p q r s = cc
+
+-- its version
+pub chunk-version : (bytes : List ℕ) (k : ℕ) (c : Chunk) → c ≡ chunkAt bytes k → c .version ≡ word bytes (k + 4) 1
+unfolding chunkAt
+chunk-version bytes k c e = rw e
 
 -- what a chunk that does not get 17 passed
 faultless-tests : (bytes : List ℕ) (arch k : ℕ) (c : Chunk) → faulty bytes arch k c ≡ false →
@@ -96,13 +108,35 @@ module _ (bytes : List ℕ) (arch k : ℕ) where
     unfolding faulty
     fault-version h = simp (eq-eqb _ _ h, or-true)
 
-    pub fault-arch : (word bytes (k + 5) 1 ≡ arch → ⊥) → faulty bytes arch k c ≡ true
+    fault-arch : (word bytes (k + 5) 1 ≡ arch → ⊥) → faulty bytes arch k c ≡ true
     unfolding faulty
     fault-arch h = simp (ne-eqb _ _ h, or-true)
 
-    pub fault-flags : (word bytes (k + 6) 2 ≡ 1 → ⊥) → faulty bytes arch k c ≡ true
+    fault-flags : (word bytes (k + 6) 2 ≡ 1 → ⊥) → faulty bytes arch k c ≡ true
     unfolding faulty
     fault-flags h = simp (ne-eqb _ _ h, or-true)
+
+    -- version, architecture and flags in one word: `w` where the chunk's is `v`
+    module _ (room : k + 8 ≤ length bytes) (w v : ℕ) (e : w ≡ word bytes (k + 4) 4) (f : v ≡ word bytes (k + 4) 1) where
+      marks : w ≡ v + 256 * word bytes (k + 5) 1 + 65536 * word bytes (k + 6) 2
+      marks =
+          omega (arith, word-more bytes (k + 4) (k + 5) 3 (omega arith) (omega arith), word-more bytes (k + 5) (k + 6) 2 (omega arith) (omega arith), word-more bytes (k + 4) (k + 5) 0 (omega arith) (omega arith), word-more bytes (k + 5) (k + 6) 0 (omega arith) (omega arith), word-none bytes (k + 5), word-none bytes (k + 6))
+
+      pub fault-marks : (w ≡ v + 256 * arch + 65536 → ⊥) → faulty bytes arch k c ≡ true
+      fault-marks h = go (eqb (word bytes (k + 5) 1) arch) refl (eqb (word bytes (k + 6) 2) 1) refl
+        where
+          go : (s : Bool) → eqb (word bytes (k + 5) 1) arch ≡ s → (t : Bool) → eqb (word bytes (k + 6) 2) 1 ≡ t → faulty bytes arch k c ≡ true
+          go false p t q = fault-arch (eqb-false _ _ p)
+          go true p false q = fault-flags (eqb-false _ _ q)
+          go true p true q = absurd (h (omega (arith, marks, eqb-true (word bytes (k + 5) 1) arch p, eqb-true (word bytes (k + 6) 2) 1 q)))
+
+      pub marks-passed : getD bytes (k + 5) 0 < 256 → arch < 256 → w ≡ v + 256 * arch + 65536 →
+          (word bytes (k + 5) 1 ≡ arch) × (word bytes (k + 6) 2 ≡ 1)
+      marks-passed b a h =
+          let byte : word bytes (k + 5) 1 < 256 =
+          omega (arith, word-more bytes (k + 5) (k + 6) 0 (omega arith) (omega arith), word-none bytes (k + 6)) in
+          let flags = higher (word bytes (k + 6) 2) (word bytes (k + 5) 1) arch byte a (omega (arith, marks)) in
+          (omega (arith, marks), flags)
 
     pub fault-small : c .size < 16 + c .count * c .stride → faulty bytes arch k c ≡ true
     unfolding faulty

@@ -87,6 +87,9 @@ module _ (c : Chunk) where
             let last : i + 1 ≡ c .count = omega (arith, ltb-false (i + 1) (c .count) t, s .below) in
             absurd (n (next ∙ ap (λ (j : ℕ). placeOf c j) last))
 
+  pub number-room : (bytes : List ℕ) → Inside bytes c → (i : ℕ) → i < c .count → placeOf c i + c .stride ≤ length bytes
+  number-room bytes inside i h = stands-room bytes inside (placeOf c i) i (record { below = h; place = refl })
+
   -- what is read there
   module _ (bytes : List ℕ) (base i k : ℕ) (s : Stands c i k) where
     pub stands-start : startAt bytes base k ≡ recordOf bytes base c i .start

@@ -116,15 +116,6 @@ fn u8_at(part: &[u8], k: usize) -> u8
     part[k]
 }
 
-// The u16 at offset k.
-fn u16_at(part: &[u8], k: usize) -> u32
-    requires { ⌜ k + 2 ≤ length (now part) ⌝ }
-    ensures { λ r. ⌜ r ≡ word (now (part .entry)) k 2 ⌝ }
-{
-    // the low byte comes first, the high one counts 256
-    wide(part[k]) + 0x100 * wide(part[k + 1])
-}
-
 // The u32 at offset k.
 fn u32_at(part: &[u8], k: usize) -> u32
     requires { ⌜ k + 4 ≤ length (now part) ⌝ }
@@ -170,7 +161,8 @@ fn chunk_at(part: &[u8], k: usize) -> Chunk
 // The chunk whose header stands at offset k gets 17.
 fn faulty(part: &[u8], arch: u8, k: usize, magic: u32, c: Chunk) -> bool
     requires { ⌜
-        (k + 16 ≤ length (now part)) × (magic ≡ word (now part) k 4) × (c .stride ≤ 16) × (c .count < 2 ^ 32)
+        (k + 16 ≤ length (now part)) × (magic ≡ word (now part) k 4) × (c .version ≡ word (now part) (k + 4) 1)
+        × (c .stride ≤ 16) × (c .count < 2 ^ 32)
         ⌝ }
     ensures { λ r. ⌜ r ≡ Header.faulty (now (part .entry)) arch k c ⌝ }
 {
@@ -180,10 +172,10 @@ fn faulty(part: &[u8], arch: u8, k: usize, magic: u32, c: Chunk) -> bool
     if c.stride == 0 {
         return true;
     }
-    if u8_at(part, k + 5) != arch {
-        return true;
-    }
-    if u16_at(part, k + 6) != FLAG_RUST_PERSONALITY {
+    // version, architecture and flags in one word
+    if u32_at(part, k + 4)
+        != wide(c.version) + 0x100 * wide(arch) + 0x1_0000 * FLAG_RUST_PERSONALITY
+    {
         return true;
     }
     if c.size < HEADER + c.count * c.stride {
@@ -310,35 +302,45 @@ fn choice(first: bool, x: usize, y: usize) -> usize
     y
 }
 
+// The start of record number i of a chunk.
+fn start_of(part: &[u8], base: usize, c: Chunk, i: usize) -> usize
+    requires { ⌜ Inside (now part) c × (i < c .count) ⌝ }
+    ensures { λ r. ⌜ r ≡ recordOf (now (part .entry)) base c i .start ⌝ }
+{
+    start_at(part, base, c.offset + HEADER + i * c.stride)
+}
+
 // Where halving on start ends: if the starts rise, at the last record that starts at pc or below it, else at the first. There are as
-// many turns for every pc. Where the next turn reads is known for both halves before this one has compared.
+// many turns for every pc. A turn halves twice, and reads what the second may compare before the first has compared.
 fn halve(part: &[u8], base: usize, c: Chunk, pc: usize) -> usize
     requires { ⌜ Inside (now part) c × (0 < c .count) ⌝ }
     ensures { λ r. ⌜ Stands c (halved (now (part .entry)) base c pc) r ⌝ }
 {
-    // the first of the records left, and how many they are
-    let mut at = c.offset + HEADER;
-    let mut width = c.count;
-    // the record with half of them, rounded down, below it
-    let mut middle = at + c.count / 2 * c.stride;
-    // as many turns as this has binary digits: then even the larger half is one record
+    // the records left are those from lo on, below hi
+    let mut lo = 0;
+    let mut hi = c.count;
+    // a halving for every binary digit of this: then one record is left, and more halvings change nothing
     let mut turns = c.count - 1;
     while 0 < turns {
-        // how many are below the middle, and how many from it on
-        let half = width / 2;
-        let rest = width - half;
-        // the middle of those below, and of the rest
-        let low = at + half / 2 * c.stride;
-        let high = middle + rest / 2 * c.stride;
+        // the middle of the records left, and of the halves below it and from it on
+        let middle = (lo + hi) / 2;
+        let low = (lo + middle) / 2;
+        let high = (middle + hi) / 2;
+        let start = start_of(part, base, c, middle);
+        let below = start_of(part, base, c, low);
+        let above = start_of(part, base, c, high);
         // those below are left where pc is below the middle's start, else the rest
-        let down = pc < start_at(part, base, middle);
-        at = choice(down, at, middle);
-        width = choice(down, half, rest);
-        middle = choice(down, low, high);
-        // one binary digit less
-        turns = turns / 2;
+        let down = pc < start;
+        lo = choice(down, lo, middle);
+        hi = choice(down, middle, hi);
+        let next = choice(down, low, high);
+        let again = pc < choice(down, below, above);
+        lo = choice(again, lo, next);
+        hi = choice(again, next, hi);
+        // two binary digits less
+        turns = turns / 4;
     }
-    at
+    c.offset + HEADER + lo * c.stride
 }
 
 // The same, by a stride that the compiler knows: a turn is shorter so.
@@ -518,11 +520,14 @@ fn found(part: &[u8], base: usize, place: Place) -> Lookup
     }
 }
 
-// The record of pc in a part, for chunks of an architecture. Small, so that a caller has the record in registers.
+// The record of pc in a part, for chunks of an architecture. Small, so that a caller has the record in registers. The part is cut
+// to its own length, so that its address and length go on as two words: copied as one, they would be waited for.
 pub fn lookup_part(part: &[u8], base: usize, pc: usize, arch: u8) -> Lookup
     ensures { λ r. ⌜ looked r ≡ lookup (now (part .entry)) base pc arch ⌝ }
 {
-    found(part, base, find(part, base, pc, arch))
+    let n = part.len();
+    let whole = &part[0..n];
+    found(whole, base, find(whole, base, pc, arch))
 }
 
 // The record of pc in the section that is lent; without a call of `lookup_part`, whose answer would go through memory.

@@ -1,6 +1,6 @@
 -- `lookup::head_at` meets its contract. Assumes nothing.
 use mathlib.Core.Path.{sym, _∙_}
-use Rattle.lookup.proofs.Headers.{head-padding, head-fault, head-here}
+use Rattle.lookup.proofs.Headers.{head-padding, head-fault, head-here, chunk-version}
 use borrow.Author.Needs.{needs}
 use Rattle.lookup.proofs.head_at.Statement.{statement}
 use Rattle.lookup.proofs.head_at.Tie as tie
@@ -15,7 +15,10 @@ chunk-at-requires : tie.Need-chunk-at-requires
 chunk-at-requires c κs = search needs
 
 faulty-requires : tie.Need-faulty-requires
-faulty-requires c κs = search needs
+faulty-requires c κs =
+    let x = c .before .before in
+    let made = c .chunk-at .ensures in
+    (x .before .before .pre, x .u32-at .ensures, chunk-version _ _ _ (made .0), made .1, made .2)
 
 returns-2 : tie.Need-returns-2
 returns-2 c =

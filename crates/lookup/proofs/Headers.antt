@@ -62,6 +62,28 @@ pub chunk-version : (bytes : List ℕ) (k : ℕ) (c : Chunk) → c ≡ chunkAt b
 unfolding chunkAt
 chunk-version bytes k c e = rw e
 
+-- the chunk of a version, with the stride written out; another version's has none
+module _ (bytes : List ℕ) (k : ℕ) (c : Chunk) (e : c ≡ chunkAt bytes k) where
+  by-version : c .stride ≡ stride (c .version)
+  unfolding chunkAt
+  by-version = rw e
+
+  pub chunk-of-1 : c .version ≡ 1 → record { offset = c .offset; version = 1; stride = 16; count = c .count; size = c .size } ≡ chunkAt bytes k
+  unfolding stride
+  chunk-of-1 v =
+      let s : c .stride ≡ 16 = by-version ∙ simp (eq-eqb _ _ v) in
+      rw (sym v, sym s) e
+
+  pub chunk-of-2 : c .version ≡ 2 → record { offset = c .offset; version = 2; stride = 12; count = c .count; size = c .size } ≡ chunkAt bytes k
+  unfolding stride
+  chunk-of-2 v =
+      let s : c .stride ≡ 12 = by-version ∙ rw v in
+      rw (sym v, sym s) e
+
+  pub chunk-unknown : (c .version ≡ 1 → ⊥) → (c .version ≡ 2 → ⊥) → c .stride ≡ 0
+  unfolding stride
+  chunk-unknown one two = by-version ∙ simp (ne-eqb _ _ one, ne-eqb _ _ two)
+
 -- what a chunk that does not get 17 passed
 faultless-tests : (bytes : List ℕ) (arch k : ℕ) (c : Chunk) → faulty bytes arch k c ≡ false →
     (c .stride ≡ 0 → ⊥) × (16 + c .count * c .stride ≤ c .size) × (k + c .size ≤ length bytes)

@@ -187,7 +187,22 @@ fn faulty(part: &[u8], arch: u8, k: usize, magic: u32, c: Chunk) -> bool
     part.len() - k < c.size
 }
 
-// What stands at offset k, where 16 bytes remain: each field of a header is read once.
+// A header at offset k that gets 17, or its chunk.
+fn head_of(part: &[u8], arch: u8, k: usize, magic: u32, c: Chunk) -> Head
+    requires { ⌜
+        (k + 16 ≤ length (now part)) × (magic ≡ word (now part) k 4) × (magic ≡ 0 → ⊥) × (c ≡ Header.chunkAt (now part) k)
+        × (c .stride ≤ 16) × (c .count < 2 ^ 32)
+        ⌝ }
+    ensures { λ r. ⌜ r ≡ Header.headAt (now (part .entry)) arch k ⌝ }
+{
+    if faulty(part, arch, k, magic, c) {
+        return Head::Fault;
+    }
+    Head::Here(c)
+}
+
+// What stands at offset k, where 16 bytes remain: each field of a header is read once. A version and a stride that the compiler knows
+// make the tests shorter.
 fn head_at(part: &[u8], arch: u8, k: usize) -> Head
     requires { ⌜ k + 16 ≤ length (now part) ⌝ }
     ensures { λ r. ⌜ r ≡ Header.headAt (now (part .entry)) arch k ⌝ }
@@ -197,10 +212,23 @@ fn head_at(part: &[u8], arch: u8, k: usize) -> Head
         return Head::Padding;
     }
     let c = chunk_at(part, k);
-    if faulty(part, arch, k, magic, c) {
-        return Head::Fault;
+    if c.version == VERSION {
+        let one = Chunk {
+            version: VERSION,
+            stride: RECORD,
+            ..c
+        };
+        return head_of(part, arch, k, magic, one);
     }
-    Head::Here(c)
+    if c.version == VERSION2 {
+        let two = Chunk {
+            version: VERSION2,
+            stride: RECORD2,
+            ..c
+        };
+        return head_of(part, arch, k, magic, two);
+    }
+    Head::Fault
 }
 
 // Records.

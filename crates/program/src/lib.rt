@@ -1,6 +1,6 @@
 // Version 2 state programs: ps-unwind's `run` (document 01, "The state program").
-// `run` refuses with 28 first. `run_program` and `run_through` are for the crates above, which have tested what is lent and the
-// architecture: any architecture but 1 stands for 2 there.
+// `run` refuses with 28 first. `run_program`, `run_into` and `run_through` are for the crates above, which have tested what is lent and
+// the architecture: any architecture but 1 stands for 2 there.
 ghost use mathlib.Core.Path.{_≡_};
 ghost use mathlib.Core.List.{List};
 ghost use Prim.Native.Nat.{ℕ, _+_, _-_, _*_, _^_, _≤_};

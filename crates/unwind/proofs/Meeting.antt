@@ -23,7 +23,6 @@ use Rattle.program.specs.Run.{Ran, run}
 use Rattle.program.specs.Answers.{ended, Runs, through}
 use Rattle.rows.specs.Handler2.{handler2}
 use Rattle.program.specs.declared.Status.the-variants as ending
-use Rattle.frame.specs.Layout.{layout}
 use Rattle.frame.specs.Apply.{apply}
 use Rattle.model.specs.FrameStep as Walk
 use Rattle.model.specs.FrameStep.{Frame, Step, nextInterrupted, callerOf, callerFile, past, pastFound, frameStep}

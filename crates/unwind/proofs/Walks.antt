@@ -24,7 +24,7 @@ use Rattle.lookup.specs.Lookup.{lookup, looked}
 use Rattle.state.specs.declared.State.{State}
 use Rattle.program.specs.Run.{Ran, run}
 use Rattle.program.proofs.Proper.{run-proper}
-use Rattle.frame.specs.Layout.{Layout, layout, lentLayout}
+use Rattle.frame.specs.Layout.{Layout, lentLayout}
 use Rattle.frame.proofs.LentLayout.{lent-layout}
 use Rattle.frame.specs.Apply.{apply}
 use Rattle.frame.specs.Step.{step}

@@ -1,5 +1,7 @@
 // The answers as the C interface hands them over: `#[repr(C)]` structs, and what each answer of the crates below becomes as one.
 // The status of an answer is 0 where it has values, 1 for none, else the number of the refusal.
+#![tactic(auto)]
+
 ghost use Rattle.std.specs.Prelude.{List, ◌≡◌, ℕ};
 ghost use Rattle.arch.specs.Answers as ArchAnswers;
 ghost use Rattle.lookup.specs.Lookup.{looked};

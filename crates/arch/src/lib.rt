@@ -2,6 +2,8 @@
 // A public function takes an architecture by its number, 1 aarch64 or 2 x86-64, and refuses any other with 28.
 // `numbers`, the columns, `saved`, `saved_count` and `stripped` are for the crates above, which have tested the number: there
 // any other stands for 2.
+#![tactic(auto)]
+
 ghost use Rattle.std.specs.Prelude.{◌≡◌, ◌<◌, length, get_or};
 ghost use Rattle.arch.specs.Arch as Arch;
 ghost use Rattle.arch.specs.File as File;

@@ -1,5 +1,7 @@
 // The C interface: the public functions with numbers, byte slices and structs by value, so that nothing lent is written.
 // A slice is a pointer and a length. The structs of the answers are those of `answers`.
+#![tactic(auto)]
+
 ghost use Rattle.std.specs.Prelude.{◌≡◌};
 ghost use Rattle.mem.specs.Memory.{lent};
 ghost use Rattle.arch.specs.Arch.{numbers};

@@ -1,6 +1,8 @@
 // A cursor over bytes that moves on in place: ps-unwind's `Bytes`, whose `u8` and `uleb` are functions here.
 // `byte_from` and `uleb_from` take a position: they make a cursor and read through it, and `uleb_from` gives back its place, so that
 // their callers see no cursor. All four are for the crates above, which have tested what is lent.
+#![tactic(auto)]
+
 ghost use Rattle.std.specs.Prelude.{◌≡◌};
 ghost use Rattle.mem.specs.Memory.{lent};
 ghost use Rattle.leb.specs.Reader.{byte_at, uleb_at, numbered_byte};

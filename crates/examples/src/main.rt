@@ -1,6 +1,8 @@
 // Runs document 01's examples that are not marked, the examples of the DWARF standard, the edges of the rules for 28, and inputs for
 // the three faults of document 02 (c), and compares.
 // What comes out of each is written beside what should.
+#![tactic(auto)]
+
 use arch::{Regs, Value};
 use leb::Number;
 use libc::STDOUT_FILENO;

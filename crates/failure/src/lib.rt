@@ -1,5 +1,6 @@
 // The numbers with which a call is turned back (document 01, "Turned back, by who causes it", and document 02, request by request).
 // The names are ps-unwind's; it has none from 27 on. specs/Failure.antt has the same numbers for the contracts, and who causes each.
+#![tactic(auto)]
 
 // A fifth remember in a state program.
 pub const REMEMBER_STACK_OVERFLOW: u32 = 10;

@@ -3,6 +3,8 @@
 // `apply` and `step` refuse with 28 first. `apply_into` and `step_into`, which change a file in place, are for the crates above,
 // which have tested what is lent, the architecture and the count: there any architecture but 1 stands for 2, and a state has no
 // pair past its arrays.
+#![tactic(auto)]
+
 ghost use Rattle.std.specs.Prelude.{◌≡◌, List, true, not, ◌&&◌, ℕ, ◌*◌, ◌≤◌, ◌<◌, eqb, ltb, length, get_or};
 ghost use Rattle.std.specs.Int.Count.{ones};
 ghost use Rattle.failure.specs.Outcome as Outcome;

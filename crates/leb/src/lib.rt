@@ -1,5 +1,7 @@
 // Bytes and unsigned LEB128 numbers at an address, up to a limit: ps-unwind's `Bytes`, by value.
 // `byte_at` and `uleb_at` are for the crates above, which have tested what is lent; `read_uleb` is the public form.
+#![tactic(auto)]
+
 ghost use Rattle.std.specs.Prelude.{◌≡◌, ◌+◌, ◌*◌, ◌%◌, ◌<◌, ◌≤◌};
 ghost use Rattle.mem.specs.Memory.{lent};
 ghost use Rattle.leb.specs.Reader as Reader;

@@ -2,6 +2,8 @@
 // A part is a slice of bytes with the address of its first one, its base, which may be any number. Offsets count from the
 // part's first byte. `lookup_part` searches any part. `lookup_arch` and `chunk_of` take what is lent: `lookup_arch` refuses with 28
 // first, and `chunk_of`, which has to return a part, gives the empty part wherever `lookup_arch` finds no record.
+#![tactic(auto)]
+
 ghost use Rattle.std.specs.Prelude.{◌≡◌, ◌+◌, ◌^◌, ◌<◌, ◌≤◌, length};
 ghost use Rattle.failure.specs.Choice.{if◌then◌else◌};
 ghost use Rattle.std.proofs.Math.Option.{none, some};

@@ -1,5 +1,7 @@
 // Every landing, and no other: the frame step, the two phases of an unwinding, document 01's call machine, and demand 3 about them.
 // Only the types of the code stand here; the definitions are in specs/, the theorem in proofs/Theorem.antt.
+#![tactic(auto)]
+
 use arch::Regs;
 
 // An unwinding: the frame that comes next, by its file, its number and whether it is interrupted; the exception; and the frame that

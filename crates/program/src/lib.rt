@@ -1,6 +1,8 @@
 // Version 2 state programs: ps-unwind's `run` (document 01, "The state program").
 // `run` refuses with 28 first. `run_program`, `run_into` and `run_through` are for the crates above, which have tested what is lent and
 // the architecture: any architecture but 1 stands for 2 there.
+#![tactic(auto)]
+
 ghost use Rattle.std.specs.Prelude.{◌≡◌, List, ℕ, ◌+◌, ◌-◌, ◌*◌, ◌^◌, ◌≤◌, length};
 ghost use Rattle.failure.specs.Outcome.{Answer};
 ghost use Rattle.mem.specs.Memory.{lent};

@@ -1,5 +1,7 @@
 // Replays the recorded answers of ps-unwind (oracle/README.md says how they were made and what a line holds) and compares
 // them with ours. A case is a line of numbers; a list is a file of cases.
+#![tactic(auto)]
+
 ghost use Rattle.std.specs.Prelude.{◌<◌};
 
 use cases::{

@@ -1,5 +1,7 @@
 // Reads a captured failure from standard input (docs/CAPTURE.md) and prints its frames, what the throw comes to, and the landing
 // pads that will run. A refusal is printed by its number and name.
+#![tactic(auto)]
+
 ghost use Rattle.std.specs.Prelude.{◌≡◌, ◌≤◌, length};
 
 use arch::{AARCH64, Regs, Value, X86_64};

@@ -1,4 +1,6 @@
 // Row tables: ps-unwind's `handler` and `handler2`.
+#![tactic(auto)]
+
 ghost use Rattle.std.specs.Prelude.{◌≡◌, ◌<◌};
 ghost use Rattle.rows.specs.Row as Spec;
 

@@ -2,6 +2,8 @@
 // place, and the methods stand on them.
 // `State::entry`, `State::restore` refuse an architecture other than 1 and 2 with 28. `at_entry` and `restore_in` are for the crates
 // above, which have tested the number: there any other stands for 2. `save_in`, for them too, takes none.
+#![tactic(auto)]
+
 ghost use Rattle.std.specs.Prelude.{◌≡◌, Bool, ℕ, ◌≤◌, ◌<◌, ◌-◌};
 ghost use Rattle.arch.specs.Arch.{numbers};
 ghost use Rattle.state.specs.State as Spec;

@@ -3,6 +3,8 @@
 // 1 stands for 2 there, only lookup compares it with the chunk's.
 // `step` has the frame step in place, `walk` the walk, `search` the throw, `cleanup` the sweep; here stand the types, and a throw with
 // the calls after it.
+#![tactic(auto)]
+
 ghost use Rattle.std.specs.Prelude.{◌≡◌, ◌&&◌};
 ghost use Rattle.mem.specs.Memory.{lent};
 ghost use Rattle.mem.specs.Opening.{opens};

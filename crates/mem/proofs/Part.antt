@@ -1,7 +1,7 @@
 -- Laws of `Part` and `PartOf`. Assumes nothing.
 use Rattle.std.proofs.Common.{◌≡◌, ℕ, zero, suc, ◌+◌, ◌<◌, ◌≤◌, ◌⊎◌, List, length, take, drop, sym, refl, ap, ◌∙◌, inl, inr, arith, length-drop, length-take, Bor}
 use native.Mathlib.Nat.{add-sub_cancel_left}
-use borrow.Rule.Slice.PartAt.{sl_part}
+use borrow.Rule.Slice.PartAt.{sl_partˢ}
 use Rattle.failure.specs.Outcome.{Outcome, Refused, Answer}
 use Rattle.failure.specs.Failure.{OutsideMemory}
 use Rattle.mem.specs.Memory.{Memory, lent, bytes_of}
@@ -10,8 +10,8 @@ use Rattle.mem.specs.Part.{Part, PartIn, PartOf}
 use Rattle.mem.proofs.Place.{place_found, place_none}
 
 -- what `&s[k..k + n]` lends
-pub lends_part : (s : Bor (List ℕ)) (k n name : ℕ) → Part s k n (sl_part s (k + s.ref_ptr.1) k (k + n) name)
-lends_part s k n name =
+pub lends_part : (s : Bor (List ℕ)) (k n : ℕ) → Part s k n (sl_partˢ s (k + s.ref_ptr.1) k (k + n))
+lends_part s k n =
     record {
       block = refl;
       start = omega arith;

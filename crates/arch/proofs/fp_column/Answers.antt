@@ -1,0 +1,13 @@
+-- `arch::fp_column` meets its contract. Assumes nothing.
+use mathlib.Core.Path.{ap}
+use native.Mathlib.Omega.{arith}
+use borrow.Author.Rules.{rules}
+use Rattle.arch.specs.declared.Arch2.{Arch2}
+use Rattle.arch.proofs.Arch.{fits}
+use Rattle.arch.proofs.fp_column.Goals as goal
+
+pub returns : goal.returns
+returns c =
+    let f = fits c.args.arch in
+    let e = ap (λ (r : Arch2). r.fp) c.numbers-a.ensures in
+    (e, omega (arith, e, f.fp, f.low))

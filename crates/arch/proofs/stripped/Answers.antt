@@ -1,0 +1,11 @@
+-- `arch::stripped` meets its contract. Assumes nothing.
+use mathlib.Core.Path.{sym}
+use native.Mathlib.Nat.{mod-eq_of_lt}
+use Rattle.arch.proofs.Arch.{numbers-aarch64, numbers_x86_64}
+use Rattle.arch.proofs.stripped.Goals as goal
+
+pub returns-then-arch-eq-AARCH64 : goal.returns-then-arch-eq-AARCH64
+returns-then-arch-eq-AARCH64 c = rw (numbers-aarch64 _ c.if-arch-eq-AARCH64.true)
+
+pub returns : goal.returns
+returns c = rw (numbers_x86_64 _ c.if-arch-eq-AARCH64.false) (sym (mod-eq_of_lt c.ranges.address.fits))

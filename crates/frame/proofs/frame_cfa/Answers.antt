@@ -27,6 +27,6 @@ returns-in-2 c =
 
 pub returns-in_default : goal.returns-in_default
 returns-in_default c =
-    let m = c.in_default.rest in
+    let m = c.in_default.in_default-own.rest in
     λ file s f.
     kind_other _ _ _ file (sym c.past_table.ensures ∙ c.if-past_table.false) _ c.kind.ensures m.0.0.1 m.0.1 m.1

@@ -38,7 +38,7 @@ returns c =
     let file = x.file.now in
     let l = lent_layout x.cfa_fp x.cfa_units x.count x.regs.now x.slots.now in
     let m = (lent x.section.now x.section_base x.stack.now x.stack_base).regions in
-    subst (λ (o : Outcome (List ℕ)). InPlace file o c.apply_at.result c.apply_at.new.1.1.1.1.1.1.1.1.1.0)
+    subst (λ (o : Outcome (List ℕ)). InPlace file o c.apply_at.result c.apply_at.new.file)
     (ap (λ (n : ℕ). apply_at (numbers x.arch) m c.add-cfa.result (pairs_at n 0 x.regs.now x.slots.now) file) c.pair_count-n.ensures.0 ∙
     cfa-passes _ m l file _ (c.base_column-k.ensures.0 file) _ c.bad_base.ensures c.if-bad_base.false _ c.add-cfa.ensures c.if-cfa-eq0.false)
     c.apply_at.ensures

@@ -15,4 +15,4 @@ returns c =
     let x = c.args in
     let m = (lent x.section.now x.section_base x.stack.now x.stack_base).regions in
     next_in_place _ _ _ _ c.apply_into-status.ensures ∙
-    ap (λ (l : Layout). next x.regs (apply (numbers x.arch) m l x.regs.r)) (lent-layout x.t6 (search rules) (search rules))
+    ap (λ (l : Layout). next x.regs (apply (numbers x.arch) m l x.regs.r)) (lent-layout x.state (search rules) (search rules))

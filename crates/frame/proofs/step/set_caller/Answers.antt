@@ -13,7 +13,7 @@ use Rattle.frame.proofs.step.set_caller.Goals as goal
 pub returns-in-Is : goal.returns-in-Is
 returns-in-Is c =
     λ whole e.
-    subst (λ (o : Outcome (List ℕ)). Partly o c.set_frame.result c.set_frame.new.1.1.1.1.1.1.1.1.0)
+    subst (λ (o : Outcome (List ℕ)). Partly o c.set_frame.result c.set_frame.new.file)
     (address_read _ _ _ _ whole _ _ refl _ (sym (ap valued c.in-Is.is) ∙ c.return_address.ensures whole e))
     c.set_frame.ensures
 

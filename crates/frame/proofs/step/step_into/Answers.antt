@@ -19,7 +19,7 @@ step_at-requires c =
 pub returns-in-Is : goal.returns-in-Is
 returns-in-Is c =
     let file = c.args.file.now in
-    subst (λ (o : Outcome (List ℕ)). InPlace file o c.step_at.result c.step_at.new.1.1.1.1.1.1.1.1.0)
+    subst (λ (o : Outcome (List ℕ)). InPlace file o c.step_at.result c.step_at.new.file)
     (word-passes _ _ _ _ file _ (sym (ap valued c.in-Is.is) ∙ c.frame_cfa.ensures file (ap (λ (k : ℕ). get_or file k 0) c.sp_column-s.ensures.0) (ap (λ (k : ℕ). get_or file k 0) c.fp_column-f.ensures.0))) c.step_at.ensures
 
 pub returns-in-Refused : goal.returns-in-Refused

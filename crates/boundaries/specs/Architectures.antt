@@ -1,6 +1,5 @@
 -- "28 opening broken, architecture not 1 or 2": in every function that hosts call, and what it hands back.
 use Rattle.std.specs.Prelude.{true, false, List, [], ◌∷◌, ◌++◌, ℕ, ◌+◌, ◌^◌}
-use Rattle.lookup.specs.declared.Record.{Record}
 use Rattle.model.specs.declared.Unwinding.{Unwinding}
 use Rattle.unwind.specs.declared.RaiseAnswer.{RaiseAnswer}
 use Rattle.unwind.specs.declared.RaiseAnswer.TheVariants as raise
@@ -20,7 +19,7 @@ use Rattle.answers.specs.declared.Raised.{Raised}
 use Rattle.answers.specs.declared.Resumed.{Resumed}
 use Rattle.answers.specs.declared.RowFound.{RowFound}
 use Rattle.boundaries.specs.Row.{Row, ◌gives◌, Right}
-use Rattle.boundaries.specs.Lending.{Target, x86_1, Lending, based, lending, plain, rowed, file_with, file, unwinding}
+use Rattle.boundaries.specs.Lending.{Target, x86_1, Lending, based, lending, rowed, file_with, file, unwinding}
 use Rattle.boundaries.specs.Structs.{number, file_is, function, read, changed, ended, row, decided, stepped, batch, raised, resumed, no_record, frames, state}
 use Rattle.boundaries.specs.Functions.{eko_strip_pac, eko_get, eko_fp, eko_sp, eko_set, eko_set_sp, eko_lookup, eko_read_uleb, eko_entry, eko_restore, eko_run, eko_apply, eko_step, eko_handler, eko_handler2, eko_personality, eko_next_frame, eko_walk, eko_raise, eko_resume, unwind}
 

@@ -11,7 +11,6 @@ use lib.ListN.{length}
 use borrow.Author.Tests.{eqb-false}
 use Rattle.failure.specs.Choice.{if◌then◌else◌}
 use Rattle.failure.specs.Failure.{BadEkoRecord, RememberStackOverflow}
-use Rattle.failure.specs.Outcome as Outcome
 use Rattle.failure.specs.Outcome.{Outcome, Answer, ◌>>=◌}
 use Rattle.mem.specs.Memory.{Memory}
 use Rattle.arch.specs.Arch.{Arch}

@@ -1,10 +1,8 @@
 -- Laws of a throw: the unwinding that it hands back, and the test for 28. Assumes nothing.
 use mathlib.Core.Path.{◌≡◌, refl, ◌∙◌, ap}
 use mathlib.Core.Bool.{Bool, true, false, ◌&&◌}
-use mathlib.Core.List.{List, [], ◌∷◌}
+use mathlib.Core.List.{List}
 use Prim.Native.Nat.{ℕ}
-use types.Run.{OneOf, miss}
-use denote.Enum.Declared.{tag_of}
 use Rattle.failure.specs.Outcome.{Outcome, Refused}
 use Rattle.failure.specs.Failure.{BadOpening}
 use Rattle.mem.specs.Memory.{Lent}
@@ -18,7 +16,6 @@ use Rattle.model.specs.Unwinding.{frame0, raise, given, unchosen, choosing}
 use Rattle.unwind.specs.Answers.{frame_at, searched, raised_by}
 use Rattle.unwind.specs.declared.RaiseAnswer.{RaiseAnswer}
 use Rattle.unwind.specs.declared.RaiseAnswer.TheVariants as answer
-use Rattle.unwind.specs.contracts.RaiseAnswer.{the_type}
 use Rattle.unwind.proofs.Opened.{closed_28, open_passes}
 
 module _ (file : List ℕ) (at : ℕ) (interrupted : Bool) (exception : ℕ) where

@@ -1,5 +1,4 @@
 -- `answers::change_status` meets its contract. Assumes nothing.
-use borrow.Author.Rules.{rules}
 use Rattle.answers.proofs.change_status.Goals as goal
 
 pub returns-in-Done : goal.returns-in-Done

@@ -1,5 +1,4 @@
 -- `answers::resume_reason` meets its contract. Assumes nothing.
-use borrow.Author.Rules.{rules}
 use Rattle.answers.proofs.resume_reason.Goals as goal
 
 pub returns-in-Install : goal.returns-in-Install

@@ -1,5 +1,4 @@
 -- `answers::to_batch` meets its contract. Assumes nothing.
-use borrow.Author.Rules.{rules}
 use Rattle.answers.proofs.to_batch.Goals as goal
 
 pub returns : goal.returns

@@ -1,5 +1,4 @@
 -- `answers::to_changed` meets its contract. Assumes nothing.
-use borrow.Author.Rules.{rules}
 use Rattle.answers.proofs.to_changed.Goals as goal
 
 pub returns : goal.returns

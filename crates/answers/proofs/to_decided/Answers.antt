@@ -1,6 +1,5 @@
 -- `answers::to_decided` meets its contract. Assumes nothing.
 use mathlib.Core.Path.{sym, ap}
-use borrow.Author.Rules.{rules}
 use Rattle.answers.specs.Interface.{decided_by}
 use Rattle.answers.proofs.to_decided.Goals as goal
 

@@ -1,6 +1,5 @@
 -- `answers::to_function` meets its contract. Assumes nothing.
 use mathlib.Core.Path.{sym, ◌∙◌, ap}
-use borrow.Author.Rules.{rules}
 use Rattle.lookup.specs.declared.Lookup.{Lookup}
 use Rattle.lookup.specs.Lookup.{looked}
 use Rattle.answers.specs.Interface.{function}

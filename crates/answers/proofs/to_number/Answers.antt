@@ -1,6 +1,5 @@
 -- `answers::to_number` meets its contract. Assumes nothing.
 use mathlib.Core.Path.{sym, ap}
-use borrow.Author.Rules.{rules}
 use Rattle.arch.specs.declared.Value.{Value}
 use Rattle.arch.specs.Answers.{valued}
 use Rattle.answers.specs.Interface.{number}

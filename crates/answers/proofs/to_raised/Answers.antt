@@ -1,6 +1,5 @@
 -- `answers::to_raised` meets its contract. Assumes nothing.
 use mathlib.Core.Path.{sym, ap}
-use borrow.Author.Rules.{rules}
 use Rattle.answers.specs.Interface.{raised_by}
 use Rattle.answers.proofs.to_raised.Goals as goal
 

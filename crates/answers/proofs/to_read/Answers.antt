@@ -1,6 +1,5 @@
 -- `answers::to_read` meets its contract. Assumes nothing.
 use mathlib.Core.Path.{sym, ap}
-use borrow.Author.Rules.{rules}
 use Rattle.leb.specs.declared.Number.{Number}
 use Rattle.leb.specs.Reader.{told}
 use Rattle.answers.specs.Interface.{read}

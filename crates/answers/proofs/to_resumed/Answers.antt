@@ -1,6 +1,5 @@
 -- `answers::to_resumed` meets its contract. Assumes nothing.
 use Rattle.model.specs.Unwinding.{frame_of}
-use borrow.Author.Rules.{rules}
 use Rattle.answers.proofs.to_resumed.Goals as goal
 
 pub returns : goal.returns

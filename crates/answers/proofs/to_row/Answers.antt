@@ -1,6 +1,5 @@
 -- `answers::to_row` meets its contract. Assumes nothing.
 use mathlib.Core.Path.{sym, ap}
-use borrow.Author.Rules.{rules}
 use Rattle.rows.specs.declared.Row.{Row}
 use Rattle.rows.specs.Row.{found}
 use Rattle.answers.specs.Interface.{row}

@@ -1,6 +1,5 @@
 -- `answers::to_slot` meets its contract. Assumes nothing.
 use mathlib.Core.Path.{sym, ap}
-use borrow.Author.Rules.{rules}
 use Rattle.state.specs.declared.Slot.{Slot}
 use Rattle.state.specs.Answers.{slotted}
 use Rattle.answers.specs.Interface.{slot}

@@ -1,6 +1,5 @@
 -- `answers::to_stepped` meets its contract. Assumes nothing.
 use mathlib.Core.Path.{◌≡◌, sym, ◌∙◌, ap}
-use borrow.Author.Rules.{rules}
 use Rattle.unwind.specs.declared.Stepped.{Stepped}
 use Rattle.unwind.specs.declared.Walked.{Walked}
 use Rattle.answers.specs.Interface.{stepped_by}

@@ -1,6 +1,5 @@
 -- `capi::eko_entry` meets its contract. Assumes nothing.
 use mathlib.Core.Path.{◌∙◌, ap}
-use borrow.Author.Rules.{rules}
 use Rattle.answers.specs.Interface.{changed}
 use Rattle.capi.proofs.eko_entry.Goals as goal
 

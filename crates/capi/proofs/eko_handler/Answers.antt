@@ -1,6 +1,5 @@
 -- `capi::eko_handler` meets its contract. Assumes nothing.
 use mathlib.Core.Path.{◌∙◌, ap}
-use borrow.Author.Rules.{rules}
 use Rattle.answers.specs.Interface.{row}
 use Rattle.capi.proofs.eko_handler.Goals as goal
 

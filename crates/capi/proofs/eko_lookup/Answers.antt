@@ -1,6 +1,5 @@
 -- `capi::eko_lookup` meets its contract. Assumes nothing.
 use mathlib.Core.Path.{◌∙◌, ap}
-use borrow.Author.Rules.{rules}
 use Rattle.answers.specs.Interface.{function}
 use Rattle.capi.proofs.eko_lookup.Goals as goal
 

@@ -1,6 +1,5 @@
 -- `capi::eko_personality` meets its contract. Assumes nothing.
 use mathlib.Core.Path.{sym, ◌∙◌, ap}
-use borrow.Author.Rules.{rules}
 use Rattle.answers.specs.Interface.{decided}
 use Rattle.capi.proofs.eko_personality.Goals as goal
 

@@ -1,6 +1,5 @@
 -- `capi::eko_raise` meets its contract. Assumes nothing.
 use mathlib.Core.Path.{◌∙◌, ap}
-use borrow.Author.Rules.{rules}
 use Rattle.answers.specs.Interface.{raised}
 use Rattle.capi.proofs.eko_raise.Goals as goal
 

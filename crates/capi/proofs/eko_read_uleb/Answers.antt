@@ -1,6 +1,5 @@
 -- `capi::eko_read_uleb` meets its contract. Assumes nothing.
 use mathlib.Core.Path.{◌∙◌, ap}
-use borrow.Author.Rules.{rules}
 use Rattle.answers.specs.Interface.{read}
 use Rattle.capi.proofs.eko_read_uleb.Goals as goal
 

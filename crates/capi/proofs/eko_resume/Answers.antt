@@ -1,6 +1,5 @@
 -- `capi::eko_resume` meets its contract. Assumes nothing.
 use mathlib.Core.Path.{◌∙◌, ap}
-use borrow.Author.Rules.{rules}
 use Rattle.answers.specs.Interface.{resumed}
 use Rattle.capi.proofs.eko_resume.Goals as goal
 

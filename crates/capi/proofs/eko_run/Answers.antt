@@ -1,6 +1,5 @@
 -- `capi::eko_run` meets its contract. Assumes nothing.
 use mathlib.Core.Path.{◌∙◌, ap}
-use borrow.Author.Rules.{rules}
 use Rattle.answers.specs.Interface.{ended}
 use Rattle.capi.proofs.eko_run.Goals as goal
 

@@ -1,6 +1,5 @@
 -- `capi::eko_slot` meets its contract. Assumes nothing.
 use mathlib.Core.Path.{◌∙◌, ap}
-use borrow.Author.Rules.{rules}
 use Rattle.answers.specs.Interface.{slot}
 use Rattle.capi.proofs.eko_slot.Goals as goal
 

@@ -1,6 +1,5 @@
 -- `capi::eko_sp` meets its contract. Assumes nothing.
 use mathlib.Core.Path.{◌∙◌, ap}
-use borrow.Author.Rules.{rules}
 use Rattle.answers.specs.Interface.{number}
 use Rattle.capi.proofs.eko_sp.Goals as goal
 

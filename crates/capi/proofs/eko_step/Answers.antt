@@ -1,6 +1,5 @@
 -- `capi::eko_step` meets its contract. Assumes nothing.
 use mathlib.Core.Path.{◌∙◌, ap}
-use borrow.Author.Rules.{rules}
 use Rattle.answers.specs.Interface.{file}
 use Rattle.capi.proofs.eko_step.Goals as goal
 

@@ -1,7 +1,6 @@
 -- `personality::cleaned` meets its contract. Assumes nothing.
 use borrow.Author.Tests.{eq-eqb, ne_eqb}
 use Rattle.personality.specs.Reason.{cleaned}
-use borrow.Author.Rules.{rules}
 use Rattle.personality.proofs.cleaned.Goals as goal
 
 pub returns-then-action-eq-ACTION_CLEANUP : goal.returns-then-action-eq-ACTION_CLEANUP

@@ -7,7 +7,6 @@ use Rattle.arch.specs.Arch.{numbers}
 use Rattle.rows.specs.Row.{Found}
 use Rattle.personality.specs.Answers.{decided}
 use Rattle.personality.specs.Reason.{row_of, meant_by, personality}
-use borrow.Author.Rules.{rules}
 use Rattle.personality.proofs.decide.Goals as goal
 
 pub returns : goal.returns

@@ -1,6 +1,5 @@
 -- `personality::installed` meets its contract. Assumes nothing.
 use Rattle.personality.proofs.Reasons.{install_decided}
-use borrow.Author.Rules.{rules}
 use Rattle.personality.proofs.installed.Goals as goal
 
 pub returns : goal.returns

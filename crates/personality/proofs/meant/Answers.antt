@@ -1,6 +1,5 @@
 -- `personality::meant` meets its contract. Assumes nothing.
 use Rattle.personality.proofs.Reasons.{meant_refused, meant_none, meant-search, meant-cleanup}
-use borrow.Author.Rules.{rules}
 use Rattle.personality.proofs.meant.Goals as goal
 
 pub returns-in-Refused : goal.returns-in-Refused

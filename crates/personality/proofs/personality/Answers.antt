@@ -1,10 +1,8 @@
 -- `personality::personality` meets its contract. Assumes nothing.
 use mathlib.Core.Path.{refl, sym, ◌∙◌, ap}
-use borrow.Author.Tests.{not-true, not-false}
 use Rattle.arch.proofs.Known.{unknown_refused, known_goes_on}
 use Rattle.personality.specs.Answers.{decided}
 use Rattle.personality.specs.Reason.{personality_in}
-use borrow.Author.Rules.{rules}
 use Rattle.personality.proofs.personality.Goals as goal
 
 pub returns-then-not-opens : goal.returns-then-not-opens

@@ -1,7 +1,6 @@
 -- `personality::row_after` meets its contract. Assumes nothing.
 use Rattle.personality.proofs.Ran.{ran_done, ran_refused}
 use Rattle.personality.proofs.Reasons.{after_run, after_refused}
-use borrow.Author.Rules.{rules}
 use Rattle.personality.proofs.row_after.Goals as goal
 
 pub returns-in-Done : goal.returns-in-Done

@@ -1,7 +1,6 @@
 -- `personality::row_of` meets its contract. Assumes nothing.
 use mathlib.Core.Path.{sym, ◌∙◌}
 use Rattle.personality.proofs.Reasons.{row-above, row_none, row_1, row_2}
-use borrow.Author.Rules.{rules}
 use Rattle.personality.proofs.row_of.Goals as goal
 
 pub returns-then-rowless : goal.returns-then-rowless

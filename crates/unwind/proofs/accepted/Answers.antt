@@ -1,7 +1,5 @@
 -- `unwind::accepted` meets its contract. Assumes nothing.
 use mathlib.Core.Path.{sym, ◌∙◌}
-use borrow.Author.Tests.{not-true, not-false}
-use borrow.Author.Rules.{rules}
 use Rattle.unwind.proofs.accepted.Goals as goal
 
 pub returns-then-not-opens : goal.returns-then-not-opens

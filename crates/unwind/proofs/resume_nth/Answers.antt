@@ -1,11 +1,7 @@
 -- `unwind::resume_nth` meets its contract. Assumes nothing.
 use mathlib.Core.Path.{sym, ◌∙◌}
-use Prim.Native.Nat.{◌-◌}
 use native.Mathlib.Omega.{arith}
-use Rattle.mem.specs.Memory.{lent}
-use Rattle.unwind.proofs.Calls.{Calling, calling-begin, calling-on, calling_settled, calling_over}
-use borrow.Author.Rules.{rules}
-use borrow.Author.Tests.{not-true}
+use Rattle.unwind.proofs.Calls.{calling-begin, calling-on, calling_settled, calling_over}
 use Rattle.unwind.proofs.resume_nth.Goals as goal
 
 pub loop-i-init : goal.loop-i-init

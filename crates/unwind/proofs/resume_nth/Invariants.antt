@@ -1,11 +1,7 @@
 -- `unwind::resume_nth` meets its contract. Assumes nothing.
-use mathlib.Core.Path.{sym, ◌∙◌}
 use Prim.Native.Nat.{◌-◌}
-use native.Mathlib.Omega.{arith}
 use Rattle.mem.specs.Memory.{lent}
-use Rattle.unwind.proofs.Calls.{Calling, calling-begin, calling-on, calling_settled, calling_over}
-use borrow.Author.Rules.{rules}
-use borrow.Author.Tests.{not-true}
+use Rattle.unwind.proofs.Calls.{Calling}
 use Rattle.unwind.proofs.resume_nth.Given as goal
 
 abbrev pub invariant-loop-i : goal.invariant-loop-i
@@ -14,4 +10,3 @@ invariant-loop-i l =
 
 abbrev pub decreases-loop-i : goal.decreases-loop-i
 decreases-loop-i l = l.n - l.i
-

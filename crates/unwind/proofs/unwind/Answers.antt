@@ -1,5 +1,4 @@
 -- `unwind::unwind` meets its contract. Assumes nothing.
-use borrow.Author.Rules.{rules}
 use Rattle.unwind.proofs.Told.{together, unwound}
 use Rattle.unwind.proofs.unwind.Goals as goal
 

@@ -1,5 +1,4 @@
 -- `answers::layout::layout_told` meets its contract. Assumes nothing.
-use borrow.Author.Rules.{rules}
 use Rattle.answers.proofs.layout.layout_told.Goals as goal
 
 pub returns : goal.returns

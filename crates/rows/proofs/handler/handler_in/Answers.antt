@@ -2,8 +2,7 @@
 use mathlib.Core.Bool.{true, false}
 use native.Mathlib.Omega.{arith}
 use lib.Dec.{ltb}
-use Rattle.rows.proofs.Held.{LeftIn, begin_in, room_in, row-middle, turn_found_in, turn_in, over_in, test_small}
-use borrow.Author.Rules.{rules}
+use Rattle.rows.proofs.Held.{begin_in, room_in, row-middle, turn_found_in, turn_in, over_in, test_small}
 use borrow.Author.Tests.{lt-ltb, le-ltb}
 use Rattle.rows.proofs.handler.handler_in.Goals as goal
 use Rattle.rows.proofs.handler.handler_in.Goals.{then-not-down, else-not-down}
@@ -63,10 +62,10 @@ loop-n-smaller c =
 pub loop-n-preserved : goal.loop-n-preserved
 loop-n-preserved c =
     elim c.if-not-down.branch [
-      then-not-down w ↦
-        turn_in _ _ _ _ _ _ _ c.loop-n.invariant c.loop-n-test.true _ c.u32_at-offset.ensures.0 c.if-offset-ret.false false (le-ltb _ _ w.if-not-down.true) _ w.at-is
+      | then-not-down w ↦
+          turn_in _ _ _ _ _ _ _ c.loop-n.invariant c.loop-n-test.true _ c.u32_at-offset.ensures.0 c.if-offset-ret.false false (le-ltb _ _ w.if-not-down.true) _ w.at-is
       | else-not-down w ↦
-        turn_in _ _ _ _ _ _ _ c.loop-n.invariant c.loop-n-test.true _ c.u32_at-offset.ensures.0 c.if-offset-ret.false true (lt-ltb _ _ w.if-not-down.false) _ w.at-is
+          turn_in _ _ _ _ _ _ _ c.loop-n.invariant c.loop-n-test.true _ c.u32_at-offset.ensures.0 c.if-offset-ret.false true (lt-ltb _ _ w.if-not-down.false) _ w.at-is
     ]
 
 pub returns : goal.returns

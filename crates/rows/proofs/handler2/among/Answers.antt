@@ -1,13 +1,12 @@
 -- `rows::handler2::among` meets its contract. Each turn passes a row. Assumes nothing.
 use mathlib.Core.Path.{refl, sym, ◌∙◌, ap}
 use mathlib.Core.Path.{subst, ◌≡◌}
-use Prim.Native.Nat.{ℕ, suc, ◌-◌, ◌≤◌}
+use Prim.Native.Nat.{ℕ, suc, ◌-◌}
 use native.Mathlib.Omega.{arith}
 use Rattle.mem.specs.Memory.{lent}
 use Rattle.rows.specs.Answers.{after, Within}
 use Rattle.rows.specs.Handler2.{rows_from}
 use Rattle.rows.specs.declared.handler2.Step.{Step}
-use borrow.Author.Rules.{rules}
 use Rattle.rows.proofs.handler2.among.Goals as goal
 
 pub loop-left-init : goal.loop-left-init

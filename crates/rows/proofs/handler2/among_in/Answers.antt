@@ -1,12 +1,11 @@
 -- `rows::handler2::among_in` meets its contract. Each turn passes a row. Assumes nothing.
 use mathlib.Core.Path.{◌≡◌, refl, sym, ◌∙◌, ap}
-use Prim.Native.Nat.{ℕ, suc, ◌-◌, ◌≤◌}
+use Prim.Native.Nat.{ℕ, suc, ◌-◌}
 use native.Mathlib.Omega.{arith}
 use Rattle.leb.proofs.Numbers.{small}
 use Rattle.rows.specs.Handler2.{rows_from}
 use Rattle.rows.specs.Held.{alone}
 use Rattle.rows.proofs.Short.{unsettled, said, row-past, row_here, row_on}
-use borrow.Author.Rules.{rules}
 use Rattle.rows.proofs.handler2.among_in.Goals as goal
 
 pub loop-left-init : goal.loop-left-init

@@ -1,6 +1,5 @@
 -- `rows::handler2::decide` meets its contract. Assumes nothing.
 use borrow.Author.Tests.{eq-eqb, ne_eqb, lt-ltb, le-ltb}
-use borrow.Author.Rules.{rules}
 use Rattle.rows.proofs.handler2.decide.Goals as goal
 
 pub returns-then-delta-eq0 : goal.returns-then-delta-eq0

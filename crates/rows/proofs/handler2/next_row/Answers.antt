@@ -3,7 +3,6 @@ use mathlib.Core.Path.{sym, ◌∙◌, ap}
 use Rattle.leb.specs.Reader.{told}
 use Rattle.leb.proofs.Numbers.{small}
 use Rattle.rows.proofs.Rows2.{row_first, row-second, row-whole}
-use borrow.Author.Rules.{rules}
 use Rattle.rows.proofs.handler2.next_row.Goals as goal
 
 pub decide-requires : goal.decide-requires

@@ -1,13 +1,10 @@
 -- `unwind::cleanup::clean` meets its contract. The invariant is `UnderWay`; the measure is the frames that may still be given. Assumes nothing.
 use mathlib.Core.Path.{◌≡◌, refl, sym, ◌∙◌}
-use Prim.Native.Nat.{ℕ, ◌-◌, ◌<◌}
+use Prim.Native.Nat.{ℕ, ◌<◌}
 use native.Mathlib.Omega.{arith}
-use Rattle.mem.specs.Memory.{lent}
-use Rattle.unwind.specs.Answers.{frame_with}
 use Rattle.unwind.specs.declared.Cleaning.TheVariants.{Refused}
-use Rattle.unwind.proofs.CleanupPhase.{UnderWay, apart-on, apart_install, cleaning_begin, cleaning_below, cleaning_on, cleaning_lands, cleaning_fatal, cleaning_refused}
+use Rattle.unwind.proofs.CleanupPhase.{apart-on, apart_install, cleaning_begin, cleaning_below, cleaning_on, cleaning_lands, cleaning_fatal, cleaning_refused}
 use Rattle.unwind.proofs.Meeting.{never_interrupted}
-use borrow.Author.Rules.{rules}
 use Rattle.unwind.proofs.cleanup.clean.Goals as goal
 
 pub loop-number-init : goal.loop-number-init

@@ -3,7 +3,6 @@ use mathlib.Core.Path.{sym, ◌∙◌, ap}
 use Rattle.unwind.specs.Turns.{clean_met}
 use Rattle.unwind.specs.declared.Met.{Met}
 use Rattle.unwind.proofs.CleanupPhase.{below_any}
-use borrow.Author.Rules.{rules}
 use Rattle.unwind.proofs.cleanup.clean_turn.Goals as goal
 
 pub returns-then-is_below : goal.returns-then-is_below

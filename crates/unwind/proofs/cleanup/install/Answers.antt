@@ -3,7 +3,6 @@ use mathlib.Core.Path.{ap}
 use Prim.Native.Nat.{ℕ}
 use lib.ListN.{set}
 use Rattle.arch.specs.File.{set_pc}
-use borrow.Author.Rules.{rules}
 use Rattle.unwind.proofs.cleanup.install.Goals as goal
 
 pub returns : goal.returns

@@ -4,7 +4,6 @@ use borrow.Author.Tests.{not-true, not-false}
 use Rattle.mem.specs.Memory.{lent}
 use Rattle.unwind.proofs.CleanupPhase.{resumed_28, resumed-unchosen, resumed-finished, resumed-on}
 use Rattle.unwind.proofs.Told.{told-next}
-use borrow.Author.Rules.{rules}
 use Rattle.unwind.proofs.cleanup.resume.Goals as goal
 
 pub returns-then-not-accepted : goal.returns-then-not-accepted

@@ -1,6 +1,5 @@
 -- `unwind::search::begin` meets its contract. Assumes nothing.
 use Rattle.unwind.proofs.Throwing.{begun_chosen, begun_refused, begun_unchosen}
-use borrow.Author.Rules.{rules}
 use Rattle.unwind.proofs.search.begin.Goals as goal
 
 pub returns-in-Chosen : goal.returns-in-Chosen

@@ -1,10 +1,8 @@
 -- `unwind::search::raise` meets its contract. Assumes nothing.
 use mathlib.Core.Path.{sym, ◌∙◌}
-use borrow.Author.Tests.{not-true, not-false}
 use Rattle.mem.specs.Memory.{lent}
 use Rattle.unwind.proofs.Throwing.{raised_28, raised-on}
 use Rattle.unwind.proofs.Told.{told-throw}
-use borrow.Author.Rules.{rules}
 use Rattle.unwind.proofs.search.raise.Goals as goal
 
 pub returns-then-not-accepted : goal.returns-then-not-accepted

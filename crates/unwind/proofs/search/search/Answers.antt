@@ -1,12 +1,8 @@
 -- `unwind::search::search` meets its contract. The invariant is `Searching`; the measure is the frames that may still be given. Assumes nothing.
-use Prim.Native.Nat.{◌-◌, ◌<◌}
+use Prim.Native.Nat.{◌<◌}
 use native.Mathlib.Omega.{arith}
-use Rattle.mem.specs.Memory.{lent}
-use Rattle.model.specs.Search as Search
-use Rattle.unwind.specs.Answers.{frame_with}
-use Rattle.unwind.proofs.Searching.{Searching, searching_begin, searching_below, searching_on, searching_stop}
+use Rattle.unwind.proofs.Searching.{searching_begin, searching_below, searching_on, searching_stop}
 use Rattle.unwind.proofs.Meeting.{never_interrupted}
-use borrow.Author.Rules.{rules}
 use Rattle.unwind.proofs.search.search.Goals as goal
 
 pub loop-number-init : goal.loop-number-init

@@ -1,6 +1,5 @@
 -- `unwind::search::search_turn` meets its contract. Assumes nothing.
 use Rattle.unwind.proofs.Searching.{turn_ended, turn_rowless, turn_row, turn_refused}
-use borrow.Author.Rules.{rules}
 use Rattle.unwind.proofs.search.search_turn.Goals as goal
 
 pub returns-in-End : goal.returns-in-End

@@ -1,6 +1,5 @@
 -- `unwind::step::advancing` meets its contract. Assumes nothing.
 use mathlib.Core.Path.{sym}
-use borrow.Author.Rules.{rules}
 use Rattle.unwind.proofs.step.advancing.Goals as goal
 
 pub returns-then-not_advancing : goal.returns-then-not_advancing

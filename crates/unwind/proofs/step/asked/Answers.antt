@@ -1,5 +1,4 @@
 -- `unwind::step::asked` meets its contract. Assumes nothing.
-use borrow.Author.Rules.{rules}
 use Rattle.unwind.proofs.step.asked.Goals as goal
 
 pub returns-then-rows : goal.returns-then-rows

@@ -4,7 +4,6 @@ use Rattle.program.specs.declared.Ended.{Ended}
 use Rattle.program.specs.Answers.{Runs}
 use Rattle.personality.proofs.Ran.{ran_done, ran_refused}
 use Rattle.unwind.proofs.Walks.{in_place_told, by_run, by_run_refused}
-use borrow.Author.Rules.{rules}
 use Rattle.unwind.proofs.step.caller_by_run.Goals as goal
 
 -- the one run of both

@@ -1,7 +1,6 @@
 -- `unwind::step::caller_into` meets its contract. Assumes nothing.
 use mathlib.Core.Path.{◌∙◌}
 use Rattle.unwind.proofs.Walks.{in_place_told, caller_1, caller_2}
-use borrow.Author.Rules.{rules}
 use Rattle.unwind.proofs.step.caller_into.Goals as goal
 
 pub returns-then-record-ne-VERSION2 : goal.returns-then-record-ne-VERSION2

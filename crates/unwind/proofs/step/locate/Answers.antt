@@ -1,6 +1,5 @@
 -- `unwind::step::locate` meets its contract. Assumes nothing.
 use Rattle.unwind.proofs.Walks.{record-end, record_29, record-looked}
-use borrow.Author.Rules.{rules}
 use Rattle.unwind.proofs.step.locate.Goals as goal
 
 pub returns-then-pc-eq0 : goal.returns-then-pc-eq0

@@ -2,7 +2,6 @@
 use mathlib.Core.Path.{refl, sym, ◌∙◌, ap}
 use Rattle.unwind.specs.Turns.{located}
 use Rattle.unwind.proofs.Meeting.{seen-located}
-use borrow.Author.Rules.{rules}
 use Rattle.unwind.proofs.step.meet.Goals as goal
 
 pub meet_at-requires : goal.meet_at-requires

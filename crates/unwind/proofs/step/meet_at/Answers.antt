@@ -1,12 +1,10 @@
 -- `unwind::step::meet_at` meets its contract. Assumes nothing.
 use mathlib.Core.Path.{◌≡◌, ◌∙◌, ap}
 use Prim.Native.Nat.{ℕ}
-use borrow.Author.Tests.{not-true, not-false}
 use Rattle.model.specs.FrameStep.{looked_up}
 use Rattle.personality.proofs.Reasons.{row-above, row_1}
 use Rattle.unwind.proofs.Walks.{record_bounds}
 use Rattle.unwind.proofs.Meeting.{passed-told, meets_refused, meets_unasked, meets_row, asked-rows, not_both, seen-asked}
-use borrow.Author.Rules.{rules}
 use Rattle.unwind.proofs.step.meet_at.Goals as goal
 use Rattle.unwind.proofs.step.meet_at.Goals.{then-record-eq-VERSION2+else-row_asked, else-record-eq-VERSION2}
 
@@ -44,10 +42,10 @@ returns-else-not-row_asked c =
     let yes = c.if-not-row_asked.false in
     let asked = asked-rows x.rows x.interrupted x.«record» x.pc _ c.asked-row_asked.ensures yes in
     let other : x.«record».version ≡ 2 → ⊥ =
-        elim c.if-record-eq-VERSION2.branch [
-          then-record-eq-VERSION2+else-row_asked w ↦ absurd (not_both _ yes w.if-row_asked.false)
-          | else-record-eq-VERSION2 w ↦ w.if-record-eq-VERSION2.false
-        ]
+    elim c.if-record-eq-VERSION2.branch [
+      | then-record-eq-VERSION2+else-row_asked w ↦ absurd (not_both _ yes w.if-row_asked.false)
+      | else-record-eq-VERSION2 w ↦ w.if-record-eq-VERSION2.false
+    ]
     in
     meets_row _ _ _ _ _ c.requires.0 c.requires.1 _ asked.0 _
     (passed-told _ _ _ _ _ _ _ c.past.ensures c.in-Done.is) c.handler_at-row.result

@@ -6,7 +6,6 @@ use Rattle.model.specs.FrameStep.{looked_up}
 use Rattle.personality.proofs.Reasons.{row-above}
 use Rattle.unwind.proofs.Walks.{in_place_told, past-told, record_bounds}
 use Rattle.unwind.proofs.Meeting.{passed-told, meets_refused, meets_row, row-through, state-through, refused_through}
-use borrow.Author.Rules.{rules}
 use Rattle.unwind.proofs.step.meet_through.Goals as goal
 
 pub looked_up-requires : goal.looked_up-requires

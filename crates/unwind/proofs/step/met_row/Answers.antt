@@ -1,5 +1,4 @@
 -- `unwind::step::met_row` meets its contract. Assumes nothing.
-use borrow.Author.Rules.{rules}
 use Rattle.unwind.proofs.step.met_row.Goals as goal
 
 pub returns-in-None : goal.returns-in-None

@@ -1,6 +1,5 @@
 -- `unwind::step::past` meets its contract. Assumes nothing.
 use Rattle.unwind.proofs.Walks.{past-told}
-use borrow.Author.Rules.{rules}
 use Rattle.unwind.proofs.step.past.Goals as goal
 
 pub returns : goal.returns

@@ -3,7 +3,6 @@ use mathlib.Core.Path.{sym, ◌∙◌, ap}
 use Rattle.mem.specs.Memory.{lent}
 use Rattle.program.specs.declared.Status.{Status}
 use Rattle.unwind.specs.Turns.{row_past}
-use borrow.Author.Rules.{rules}
 use Rattle.unwind.proofs.step.row_past.Goals as goal
 
 pub returns-in-Done : goal.returns-in-Done

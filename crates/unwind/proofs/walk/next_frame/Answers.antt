@@ -1,10 +1,8 @@
 -- `unwind::walk::next_frame` meets its contract. Assumes nothing.
 use mathlib.Core.Path.{sym, ◌∙◌, ap}
-use borrow.Author.Tests.{not-true, not-false}
 use Rattle.model.specs.Unwinding.{next_frame}
 use Rattle.unwind.specs.Answers.{stepped}
 use Rattle.unwind.proofs.Opened.{closed_28, open_passes}
-use borrow.Author.Rules.{rules}
 use Rattle.unwind.proofs.walk.next_frame.Goals as goal
 
 pub returns-then-not-accepted : goal.returns-then-not-accepted

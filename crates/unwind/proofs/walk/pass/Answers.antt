@@ -1,6 +1,5 @@
 -- `unwind::walk::pass` meets its contract. Assumes nothing.
 use Rattle.unwind.proofs.Batching.{given_met}
-use borrow.Author.Rules.{rules}
 use Rattle.unwind.proofs.walk.pass.Goals as goal
 
 pub returns-in-End : goal.returns-in-End

@@ -2,7 +2,6 @@
 use mathlib.Core.Path.{◌∙◌}
 use native.Mathlib.Omega.{arith}
 use Rattle.unwind.proofs.Meeting.{met_below, step_met, never_interrupted, steps-past, stays, stays_refused}
-use borrow.Author.Rules.{rules}
 use Rattle.unwind.proofs.walk.step_from.Goals as goal
 
 pub overflow_add-result : goal.overflow_add-result

@@ -1,9 +1,7 @@
 -- `unwind::walk::walk` meets its contract. Assumes nothing.
 use mathlib.Core.Path.{sym, ◌∙◌, ap}
-use borrow.Author.Tests.{not-true, not-false}
 use Rattle.unwind.specs.Batches.{walked_by}
 use Rattle.unwind.proofs.Batching.{walking_28, walking_on}
-use borrow.Author.Rules.{rules}
 use Rattle.unwind.proofs.walk.walk.Goals as goal
 
 pub returns-then-not-accepted : goal.returns-then-not-accepted

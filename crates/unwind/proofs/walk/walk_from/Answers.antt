@@ -1,11 +1,8 @@
 -- `unwind::walk::walk_from` meets its contract. The invariant is `Onward`. Assumes nothing.
 use mathlib.Core.Path.{refl, sym, ap}
-use Prim.Native.Nat.{◌-◌}
 use native.Mathlib.Omega.{arith}
-use Rattle.mem.specs.Memory.{lent}
-use Rattle.unwind.specs.Answers.{frame_with, frame_at}
 use Rattle.unwind.specs.Batches.{walked_by}
-use Rattle.unwind.proofs.Batching.{Onward, onward_begin, onward_below, onward_on, onward_over, onward_end, onward_refused}
+use Rattle.unwind.proofs.Batching.{onward_begin, onward_below, onward_on, onward_over, onward_end, onward_refused}
 use Rattle.unwind.proofs.Meeting.{never_interrupted}
 use borrow.Author.Rules.{rules}
 use Rattle.unwind.proofs.walk.walk_from.Goals as goal

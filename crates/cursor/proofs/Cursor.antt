@@ -1,9 +1,8 @@
 -- Of a number that is read, the value and the place after it are the whole answer, and the value has its number. Past what
 -- does not move it, the cursor is the one that stood there. Assumes nothing.
 use mathlib.Core.Path.{◌≡◌, refl, ◌∙◌, ap}
-use mathlib.Core.Bool.{not}
+use mathlib.Core.Bool.{false}
 use Prim.Native.Nat.{ℕ}
-use lib.Dec.{T}
 use Rattle.failure.specs.Outcome.{Outcome, Answer, ◌>>=◌}
 use Rattle.mem.specs.Memory.{Memory}
 use Rattle.leb.specs.Reader.{Read, numbered}
@@ -35,14 +34,14 @@ here_told m c =
     value-told (uleb_here m c) ∙ ap (λ (o : Outcome Read). o >>= λ (r : Read). Answer r.value) (uleb-told m c.end c.pos)
 
 -- where a byte does not move the cursor, the cursor past it is the one that stood there
-pub byte_stays : (c : Bytes) (b : Byte) → T (not (moves_byte b)) → c ≡ past_byte c b
-byte_stays c (byte.Is b) z = absurd z
+pub byte_stays : (c : Bytes) (b : Byte) → moves_byte b ≡ false → c ≡ past_byte c b
+byte_stays c (byte.Is b) z = cc
 byte_stays c byte.Limit z = refl
 byte_stays c byte.Outside z = refl
 
 -- and so of a number
-pub number_stays : (c : Bytes) (u : Uleb) → T (not (moves u)) → c ≡ past c u
-number_stays c (Is v next) z = absurd z
+pub number_stays : (c : Bytes) (u : Uleb) → moves u ≡ false → c ≡ past c u
+number_stays c (Is v next) z = cc
 number_stays c Limit z = refl
 number_stays c TooLarge z = refl
 number_stays c Outside z = refl

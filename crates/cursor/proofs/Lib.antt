@@ -1,7 +1,2 @@
--- Laws of the cursor, and what its walks share.
+-- Laws of the cursor.
 pub mod Cursor
-pub mod Lent
-pub mod Held
-pub mod Params
-pub mod Reading
-pub mod Making

@@ -43,7 +43,7 @@ pub const DATA_HANDLERS: u32 = 0x8000_0000;
 
 // The record of a function, with addresses in the place of its offsets.
 #[repr(C)]
-#[derive(Drop)]
+#[derive(Clone, Copy)]
 pub struct Record {
     pub start: usize,
     pub end: usize,
@@ -58,7 +58,7 @@ pub struct Record {
 }
 
 // A chunk: where it begins in its part, and what its header says.
-#[derive(Drop)]
+#[derive(Clone, Copy)]
 pub struct Chunk {
     pub offset: usize,
     pub version: u8,

@@ -23,7 +23,7 @@ pub const MAX_SAVED: usize = 32;
 // saved: regs[i] in slot slots[i], which is 8 * slots[i] bytes below the CFA, for i below count. What stands past the count is part
 // of the state too.
 #[repr(C)]
-#[derive(Drop)]
+#[derive(Clone, Copy)]
 pub struct State {
     pub cfa_fp: bool,
     pub cfa_units: u32,

@@ -1,0 +1,39 @@
+-- `program::advance` meets its contract: each return is a law of `advance`. Assumes nothing.
+use mathlib.Core.Path.{ap}
+use Prim.Native.Nat.{◌*◌, ◌≤◌}
+use native.Mathlib.Omega.{arith}
+use borrow.Author.Rules.{rules}
+use Rattle.arch.specs.declared.Arch2.{Arch2}
+use Rattle.program.proofs.Loop.{advance_overflow, advance-past, advance-on, unit_small, advance-fits}
+use Rattle.program.proofs.advance.Goals as goal
+
+pub overflow_mul-by : goal.overflow_mul-by
+overflow_mul-by c =
+    let x = c.args in
+    let unit : c.numbers-a.result.unit ≤ 4 =
+    omega (arith, unit_small x.arch, ap (λ (r : Arch2). r.unit) c.numbers-a.ensures) in
+    record { fits = advance-fits x.n _ (search rules) unit }
+
+pub returns-then-at-by : goal.returns-then-at-by
+returns-then-at-by c =
+    let n = c.args.n in (
+      λ st states.
+          advance_overflow _ _ _ _ (ap (λ (r : Arch2). n * r.unit) c.numbers-a.ensures) c.ranges.at.fits c.if-at-by.true,
+      λ depth. tt,
+    )
+
+pub returns-then-off-at : goal.returns-then-off-at
+returns-then-off-at c =
+    let n = c.args.n in (
+      λ st states.
+          advance-past _ _ _ _ (ap (λ (r : Arch2). n * r.unit) c.numbers-a.ensures) c.ranges.at.fits c.if-at-by.false c.if-off-at.true,
+      λ depth. tt,
+    )
+
+pub returns : goal.returns
+returns c =
+    let n = c.args.n in (
+      λ st states.
+          advance-on _ _ _ _ (ap (λ (r : Arch2). n * r.unit) c.numbers-a.ensures) c.ranges.at.fits c.if-at-by.false c.if-off-at.false,
+      λ depth. tt,
+    )

@@ -1,0 +1,26 @@
+-- `rows::handler::judged_in` meets its contract. Assumes nothing.
+use mathlib.Core.Path.{sym, ◌∙◌, ap}
+use Rattle.failure.specs.Outcome.{Answer}
+use Rattle.rows.specs.Handler.{row}
+use Rattle.rows.proofs.Entries.{judged_left, judged_right, judged-whole}
+use Rattle.rows.proofs.Held.{judged_there, here, row_here}
+use borrow.Author.Rules.{rules}
+use Rattle.rows.proofs.handler.judged_in.Goals as goal
+
+pub returns-then-left_breaks_in : goal.returns-then-left_breaks_in
+returns-then-left_breaks_in c =
+    let p = c.requires in
+    judged_there _ _ _ _ _ (here _ _ _ _ p.whole _ _ p) _
+    (judged_left _ _ _ _ _ (ap Answer (sym c.if-left_breaks_in.true) ∙ c.left_breaks_in.ensures))
+
+pub returns-then-right_breaks_in : goal.returns-then-right_breaks_in
+returns-then-right_breaks_in c =
+    let p = c.requires in
+    judged_there _ _ _ _ _ (here _ _ _ _ p.whole _ _ p) _
+    (judged_right _ _ _ _ _ (ap Answer (sym c.if-left_breaks_in.false) ∙ c.left_breaks_in.ensures) (ap Answer (sym c.if-right_breaks_in.true) ∙ c.right_breaks_in.ensures))
+
+pub returns : goal.returns
+returns c =
+    let p = c.requires in
+    judged_there _ _ _ _ (row _ _ _) (row_here _ _ _ _ p.whole _ _ p _ _ c.u32_at.ensures.0 c.u32_at-2.ensures.0) _
+    (judged-whole _ _ _ _ (row _ _ _) (ap Answer (sym c.if-left_breaks_in.false) ∙ c.left_breaks_in.ensures) (ap Answer (sym c.if-right_breaks_in.false) ∙ c.right_breaks_in.ensures) _ c.checked.ensures)

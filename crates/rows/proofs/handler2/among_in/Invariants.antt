@@ -1,0 +1,21 @@
+-- `rows::handler2::among_in` meets its contract. Each turn passes a row. Assumes nothing.
+use mathlib.Core.Path.{◌≡◌, refl, sym, ◌∙◌, ap}
+use Prim.Native.Nat.{ℕ, suc, ◌-◌, ◌≤◌}
+use native.Mathlib.Omega.{arith}
+use Rattle.leb.proofs.Numbers.{small}
+use Rattle.failure.specs.Outcome.{Answer}
+use Rattle.mem.specs.Memory.{Memory}
+use Rattle.leb.specs.Reader.{Read}
+use Rattle.rows.specs.Handler2.{uleb, rows_from}
+use Rattle.rows.specs.Held.{alone}
+use Rattle.rows.proofs.Short.{unsettled, said, row-past, row_here, row_on}
+use borrow.Author.Rules.{rules}
+use Rattle.rows.proofs.handler2.among_in.Given as goal
+
+abbrev pub invariant-loop-left : goal.invariant-loop-left
+invariant-loop-left l =
+    (rows_from l.rows (alone l.section l.base) l.limit l.first 0 l.ret ≡ rows_from l.left (alone l.section l.base) l.limit l.pos l.at l.ret) × (l.at ≤ l.ret) × (l.base ≤ l.pos)
+
+abbrev pub decreases-loop-left : goal.decreases-loop-left
+decreases-loop-left l = l.left
+

@@ -138,10 +138,8 @@ fn feed(p: Progress, words: &mut [usize; 8192], c: u8) -> Progress {
 // All bytes of a part of a list.
 fn feed_all(p: Progress, words: &mut [usize; 8192], part: &[u8]) -> Progress {
     let mut q = p;
-    let mut i: usize = 0;
-    while i < part.len() {
-        q = feed(q, words, part[i]);
-        i += 1;
+    for c in part {
+        q = feed(q, words, *c);
     }
     q
 }
@@ -172,13 +170,11 @@ fn replay_list(list: &mut impl Read, alloc: Global) -> io::Result<Progress> {
         v: 0,
         ended: false,
     };
-    let mut parts: usize = 0;
-    while parts < 256 {
+    for _ in 0..256usize {
         p = feed_next(p, &mut words, list, alloc)?;
         if p.ended {
             return Ok(p);
         }
-        parts += 1;
     }
     Ok(p)
 }

@@ -153,10 +153,8 @@ fn architecture(n: usize) -> u8 {
 // The register file of a capture, column by column.
 fn registers(input: &[u8]) -> Regs {
     let mut regs = Regs { r: [0usize; 41] };
-    let mut k: usize = 0;
-    while k < 41 {
+    for k in 0..41usize {
         regs.r[k] = word(input, AT_REGS + 8 * k);
-        k += 1;
     }
     regs
 }
@@ -256,6 +254,11 @@ fn past<'a>(
         record,
         regs.pc(),
     );
+    let turn = match &row {
+        Row::None => Turn::On,
+        Row::Is(_, _) => Turn::On,
+        Row::Refused(_) => Turn::RowRefused,
+    };
     let at = looked_up(interrupted, regs.pc());
     let chunk = chunk_of(section, c.section_base, stack, c.stack_base, at, c.arch);
     frame_line(
@@ -268,11 +271,7 @@ fn past<'a>(
         value(regs.sp(c.arch)),
         row,
     )?;
-    match row {
-        Row::None => Ok(Turn::On),
-        Row::Is(_, _) => Ok(Turn::On),
-        Row::Refused(_) => Ok(Turn::RowRefused),
-    }
+    Ok(turn)
 }
 
 // What the step of a frame comes to.
@@ -343,8 +342,7 @@ fn frames<'a>(rt: &impl Print, section: &'a [u8], stack: &'a [u8], c: Capture) -
         number: 0,
         pc: 0,
     };
-    let mut turns: usize = 0;
-    while turns < TURNS {
+    for _ in 0..TURNS {
         let next = next_frame(
             section,
             c.section_base,
@@ -364,7 +362,6 @@ fn frames<'a>(rt: &impl Print, section: &'a [u8], stack: &'a [u8], c: Capture) -
         number = next.number;
         first = next.interrupted;
         file = next.regs;
-        turns += 1;
     }
     Ok(spot)
 }
@@ -406,10 +403,8 @@ fn register_cell(rt: &impl Print, arch: u8, regs: Regs, i: usize) -> io::Result<
 
 fn register_cells(rt: &impl Print, arch: u8, regs: Regs) -> io::Result<()> {
     let n = preserved_count(arch);
-    let mut i: usize = 0;
-    while i < n {
+    for i in 0..n {
         register_cell(rt, arch, regs, i)?;
-        i += 1;
     }
     println!(rt)
 }
@@ -423,12 +418,10 @@ fn pad_lines(rt: &impl Print, arch: u8, turn: usize, number: usize, regs: Regs) 
 }
 
 // What a resume call comes to; whether another follows.
-fn landed(rt: &impl Print, arch: u8, turn: usize, resumed: Resumed) -> io::Result<bool> {
-    let answer = resumed.answer;
-    let regs = resumed.regs;
-    match answer {
+fn landed(rt: &impl Print, arch: u8, turn: usize, resumed: &Resumed) -> io::Result<bool> {
+    match &resumed.answer {
         ResumeAnswer::Install(number) => {
-            pad_lines(rt, arch, turn, number, regs)?;
+            pad_lines(rt, arch, turn, *number, resumed.regs)?;
             Ok(true)
         }
         ResumeAnswer::Finished => {
@@ -441,7 +434,7 @@ fn landed(rt: &impl Print, arch: u8, turn: usize, resumed: Resumed) -> io::Resul
         }
         ResumeAnswer::Refused(n) => {
             print!(rt; "landings: ")?;
-            refused(rt, n)?;
+            refused(rt, *n)?;
             println!(rt)?;
             Ok(false)
         }
@@ -458,14 +451,12 @@ fn pads<'a>(
 ) -> io::Result<()> {
     println!(rt; "\n  pad  frame  pc                sp, and the preserved registers")?;
     let mut u = unwinding;
-    let mut turns: usize = 0;
-    while turns < TURNS {
+    for turn in 0..TURNS {
         let resumed = resume(section, c.section_base, stack, c.stack_base, c.arch, u);
-        u = resumed.unwinding;
-        if !landed(rt, c.arch, turns, resumed)? {
+        if !landed(rt, c.arch, turn, &resumed)? {
             return Ok(());
         }
-        turns += 1;
+        u = resumed.unwinding;
     }
     Ok(())
 }

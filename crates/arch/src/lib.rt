@@ -110,7 +110,7 @@ pub enum Status {
 
 // A register file of either architecture.
 #[repr(C)]
-#[derive(Drop)]
+#[derive(Clone, Copy)]
 pub struct Regs {
     pub r: [usize; COLUMNS],
 }

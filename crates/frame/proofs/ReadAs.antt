@@ -15,7 +15,7 @@ use Rattle.failure.specs.Failure.{Misaligned, OutsideMemory}
 use Rattle.mem.specs.Memory.{Memory}
 use Rattle.mem.specs.Wrapping.{sum}
 use Rattle.arch.specs.Arch.{Arch, numbers}
-use Rattle.arch.specs.File.{columns, get, set, fp, sp}
+use Rattle.arch.specs.File.{columns, get, set, sp}
 use Rattle.frame.specs.Layout.{Pair, base, cfa}
 use Rattle.frame.specs.Apply.{bad_fp, load_slot, restore_pairs, returned, apply_at, apply}
 use Rattle.frame.specs.Frame.{kind, leaf, on_fp, on_sp, reversed, mask, param, named, in_slots, first_slot, saved_pairs, fp_pair, ra_slot}

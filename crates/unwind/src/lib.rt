@@ -95,7 +95,7 @@ pub struct Raised {
 }
 
 // What a sweep call comes to: the landing of the frame with this number, 2, finished, or a refusal.
-#[derive(Drop)]
+#[derive(Clone, Copy)]
 pub enum ResumeAnswer {
     Install(usize),
     Fatal,

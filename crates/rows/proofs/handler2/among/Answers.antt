@@ -22,7 +22,7 @@ returns-in-Ends c =
     let m = (lent c.args.section.now c.args.section_base c.args.stack.now c.args.stack_base).regions in
     let x = c.args in
     let n : suc (c.loop-left.left - 1) ≡ c.loop-left.left = omega (arith, c.loop-left-test.true) in
-    sym (ap (λ (r : Step). after m x.limit x.ret (c.loop-left.left - 1) r) c.in-Ends.is) ∙ c.next_row.ensures.0
+    sym (ap (λ (r : Step). after m x.limit x.ret (c.loop-left.left - 1) r) c.in-Ends.is) ∙ c.next_row.ensures.result_value
     ∙ ap (λ (k : ℕ). rows_from k m x.limit c.loop-left.pos c.loop-left.at x.ret) n ∙ sym s.0
 
 pub loop-left-smaller : goal.loop-left-smaller
@@ -35,9 +35,9 @@ loop-left-preserved c =
     let x = c.args in
     let n : suc (c.loop-left.left - 1) ≡ c.loop-left.left = omega (arith, c.loop-left-test.true) in (
       s.0 ∙ ap (λ (k : ℕ). rows_from k m x.limit c.loop-left.pos c.loop-left.at x.ret) (sym n)
-          ∙ sym c.next_row.ensures.0
+          ∙ sym c.next_row.ensures.result_value
           ∙ ap (λ (r : Step). after m x.limit x.ret (c.loop-left.left - 1) r) c.in-On.is,
-      subst (λ (r : Step). Within x.ret r) c.in-On.is c.next_row.ensures.1,
+      subst (λ (r : Step). Within x.ret r) c.in-On.is c.next_row.ensures.within,
     )
 
 pub returns : goal.returns

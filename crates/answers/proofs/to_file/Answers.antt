@@ -1,0 +1,6 @@
+-- `answers::to_file` meets its contract. Assumes nothing.
+use borrow.Author.Rules.{rules}
+use Rattle.answers.proofs.to_file.Goals as goal
+
+pub returns : goal.returns
+returns c = simp c.file_status.ensures

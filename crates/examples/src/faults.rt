@@ -62,8 +62,7 @@ pub fn programs(rt: &impl Print) -> io::Result<()> {
         "program d0 00",
         after_run(2, &[0xd0, 0x00], 0x1000),
         0x1_0000_0012,
-    )?;
-    Ok(())
+    )
 }
 
 // The numbers of a version 2 table, and the delta that is peeked.
@@ -81,8 +80,7 @@ pub fn rows(rt: &impl Print) -> io::Result<()> {
         row_at(&[2, 5, 0x29, 0x80, 0x80, 0x80, 0x80, 0x80], 5),
         NO_NUMBER,
     )?;
-    line(rt, "rows 02 00 at 5", row_at(&[2, 0], 5), CUT)?;
-    Ok(())
+    line(rt, "rows 02 00 at 5", row_at(&[2, 0], 5), CUT)
 }
 
 // A record with a table and no program: its rows are looked for at address 0, which is its limit.
@@ -115,8 +113,7 @@ pub fn reason(rt: &impl Print) -> io::Result<()> {
         Code::Reason(n) => n as usize,
         Code::Refused(e) => 0x1_0000_0000 + e as usize,
     };
-    line(rt, "rows without a program, at their limit", got, CUT)?;
-    Ok(())
+    line(rt, "rows without a program, at their limit", got, CUT)
 }
 
 // Saves beside 32 pairs, a restore that saves 16 again there, and c9 beside 31 pairs without 29 and 30.
@@ -135,6 +132,5 @@ pub fn registers(rt: &impl Print) -> io::Result<()> {
         "c9 beside 31 pairs",
         after_run(1, bytes, 0x1000),
         TOO_MANY,
-    )?;
-    Ok(())
+    )
 }

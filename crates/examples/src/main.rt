@@ -58,8 +58,7 @@ fn ambiguous_row(rt: &impl Print) -> io::Result<()> {
         "rows 02 05 29 00 40 at 4",
         row_at(&table, 4),
         0x2_0000_0000,
-    )?;
-    Ok(())
+    )
 }
 
 // Whether an opening is accepted: 1 or 0.
@@ -110,8 +109,7 @@ fn openings(rt: &impl Print) -> io::Result<()> {
         opened(b"four", 0x1000, b"", 0x1002),
         1,
     )?;
-    line(rt, "empty stack at 0", opened(b"four", 0x1000, b"", 0), 0)?;
-    Ok(())
+    line(rt, "empty stack at 0", opened(b"four", 0x1000, b"", 0), 0)
 }
 
 // The refusal of a value: its number, or 0.
@@ -148,8 +146,7 @@ fn architectures(rt: &impl Print) -> io::Result<()> {
         "register 16 of architecture 3",
         refusal(regs.get(3, 16)),
         28,
-    )?;
-    Ok(())
+    )
 }
 
 // A state that counts so many pairs, all of register 7.
@@ -183,8 +180,7 @@ fn save_at(count: usize, reg: usize, slot: usize) -> usize {
 // A state that counts more than 32 pairs gets 28.
 fn counts(rt: &impl Print) -> io::Result<()> {
     line(rt, "save beside 32 pairs", save_at(32, 7, 2), 0)?;
-    line(rt, "save beside 33 pairs", save_at(33, 7, 2), 28)?;
-    Ok(())
+    line(rt, "save beside 33 pairs", save_at(33, 7, 2), 28)
 }
 
 // The DWARF standard's examples of unsigned LEB128 (version 5, section 7.6).
@@ -194,8 +190,7 @@ fn dwarf_uleb(rt: &impl Print) -> io::Result<()> {
     line(rt, "uleb 80 01", uleb_value(&[0x80, 1]), 128)?;
     line(rt, "uleb 81 01", uleb_value(&[0x81, 1]), 129)?;
     line(rt, "uleb 82 01", uleb_value(&[0x82, 1]), 130)?;
-    line(rt, "uleb b9 64", uleb_value(&[0xb9, 0x64]), 12857)?;
-    Ok(())
+    line(rt, "uleb b9 64", uleb_value(&[0xb9, 0x64]), 12857)
 }
 
 fn main(rt: HostRuntime) -> io::Result<()> {

@@ -10,9 +10,9 @@ pub record Range : Type 0 where
   pub size : ℕ
   pub base : ℕ
 
-infix 80 ◌bytesAt◌
-abbrev pub ◌bytesAt◌ : ℕ → ℕ → Range
-◌bytesAt◌ size base = record { size = size; base = base }
+infix 80 ◌bytes_at◌
+abbrev pub ◌bytes_at◌ : ℕ → ℕ → Range
+◌bytes_at◌ size base = record { size = size; base = base }
 
 -- a section and a stack with these bases and lengths are accepted
 abbrev pub accepts : Range → Range → Bool

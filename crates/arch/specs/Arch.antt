@@ -1,6 +1,5 @@
 -- The numbers of an architecture (document 01, "Kept from the Rust" and "Register files"). Registers go by DWARF numbers.
-use Rattle.std.specs.Prelude.{Bool, ◌||◌, List, [], ◌∷◌, ℕ, ◌%◌, ◌^◌, eqb}
-use Rattle.failure.specs.Choice.{if◌then◌else◌}
+use Rattle.std.specs.Prelude.{Bool, ◌||◌, List, [], ◌∷◌, ℕ, ◌%◌, ◌^◌, eqb, if◌then◌else◌}
 use Rattle.failure.specs.Outcome.{Outcome, Refused, Answer}
 use Rattle.failure.specs.Failure.{BadOpening}
 

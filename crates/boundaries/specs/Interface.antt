@@ -1,6 +1,5 @@
 -- The C interface: what each struct holds for an answer, for none and for a refusal. A refusal hands back the file or state that came in.
-use Rattle.std.specs.Prelude.{true, false, List, [], ◌∷◌, ◌++◌, ℕ, ◌-◌, ◌^◌, eqb, replicate}
-use Rattle.failure.specs.Choice.{if◌then◌else◌}
+use Rattle.std.specs.Prelude.{true, false, List, [], ◌∷◌, ◌++◌, ℕ, ◌-◌, ◌^◌, eqb, replicate, if◌then◌else◌}
 use Rattle.state.specs.declared.State.{State}
 use Rattle.answers.specs.declared.Number.{Number}
 use Rattle.answers.specs.declared.File.{File}

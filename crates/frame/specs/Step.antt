@@ -1,6 +1,5 @@
 -- `step`: the caller's registers from a version 1 frame word (document 01, "Version 1 frames").
-use Rattle.std.specs.Prelude.{Bool, not, ◌&&◌, ◌||◌, List, ℕ, ◌+◌, ◌*◌, ◌/◌, ◌^◌, eqb, ltb, length}
-use Rattle.failure.specs.Choice.{if◌then◌else◌}
+use Rattle.std.specs.Prelude.{Bool, not, ◌&&◌, ◌||◌, List, ℕ, ◌+◌, ◌*◌, ◌/◌, ◌^◌, eqb, ltb, length, if◌then◌else◌}
 use Rattle.failure.specs.Outcome.{Outcome, Refused, Answer, ◌>>=◌}
 use Rattle.failure.specs.Failure.{BadEkoRecord, EkoAsyncFrame, Misaligned}
 use Rattle.mem.specs.Memory.{Memory}

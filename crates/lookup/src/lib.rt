@@ -4,8 +4,7 @@
 // first, and `chunk_of`, which has to return a part, gives the empty part wherever `lookup_arch` finds no record.
 #![tactic(auto)]
 
-ghost use Rattle.std.specs.Prelude.{◌≡◌, ◌+◌, ◌^◌, ◌<◌, ◌≤◌, length};
-ghost use Rattle.failure.specs.Choice.{if◌then◌else◌};
+ghost use Rattle.std.specs.Prelude.{◌≡◌, ◌+◌, ◌^◌, ◌<◌, ◌≤◌, length, if◌then◌else◌};
 ghost use Rattle.std.proofs.Math.Option.{none, some};
 ghost use Rattle.failure.specs.Outcome.{Answer};
 ghost use Rattle.lookup.specs.Field.{word};

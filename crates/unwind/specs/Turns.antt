@@ -1,7 +1,6 @@
 -- What a turn of a loop comes to: no definition of the model goes through these.
-use Rattle.std.specs.Prelude.{◌≡◌, Bool, not, ◌&&◌, ◌||◌, List, ℕ, eqb, ltb}
+use Rattle.std.specs.Prelude.{◌≡◌, Bool, not, ◌&&◌, ◌||◌, List, ℕ, eqb, ltb, if◌then◌else◌}
 use Rattle.std.proofs.Math.Option.{Option, none, some}
-use Rattle.failure.specs.Choice.{if◌then◌else◌}
 use Rattle.failure.specs.Outcome.{Outcome, Answer, ◌>>=◌}
 use Rattle.failure.specs.Failure.{StackNotAdvancing, TooManyFrames, HandlerFrameMissed}
 use Rattle.mem.specs.Memory.{Memory, Lent, lent}

@@ -39,7 +39,7 @@ by_opening f g refused accepted =
     f (based 0x1000 0xfa1 g) gives refused ∷
     f g gives accepted ∷ []
 
--- the tables of version 2 of an architecture; those that are not known have the files of x86_64 here
+-- the tables of version 2 of an architecture; those that are not known have the files of x86-64 here
 abbrev pub version2 : ℕ → Target
 version2 arch = record { arch = arch; version = 2 }
 
@@ -93,7 +93,7 @@ lookups =
 abbrev pub ulebs : List (Row Read)
 ulebs = by_opening (λ g. eko_read_uleb g 0x103c 0x1048) (lent_to 2) (read 28 0 0) (read 0 144 0x103e)
 
--- states: for `eko_entry` and `eko_run` the entry state of x86_64 is handed back, for `eko_restore` that which came in
+-- states: for `eko_entry` and `eko_run` the entry state of x86-64 is handed back, for `eko_restore` that which came in
 abbrev pub changes : List (Row Changed)
 changes =
     by_architecture eko_entry (changed 28 (state false 1 1 (16 ∷ []) (1 ∷ [])))

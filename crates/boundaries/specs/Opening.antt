@@ -92,7 +92,7 @@ shared =
     accepts ((2 ^ 31) bytes_at (2 ^ 62)) ((2 ^ 31) bytes_at (2 ^ 62 - 2 ^ 31)) gives true ∷
     accepts ((2 ^ 31) bytes_at (2 ^ 62)) ((2 ^ 31) bytes_at (2 ^ 62 - 2 ^ 31 + 1)) gives false ∷ []
 
--- "architecture 1 aarch64, 2 x86_64", and no other
+-- "architecture 1 aarch64, 2 x86-64", and no other
 abbrev pub architectures : List (Row Bool)
 architectures =
     is_known 0 gives false ∷

@@ -67,7 +67,7 @@ pub struct Chunk {
 }
 
 // What looking a pc up comes to; an offset counts from the first byte of what was searched.
-#[derive(Drop)]
+#[derive(Clone, Copy)]
 pub enum Lookup {
     Found(Record, Chunk),
     None,
@@ -78,7 +78,7 @@ pub enum Lookup {
 }
 
 // What stands where 16 bytes remain.
-#[derive(Drop)]
+#[derive(Clone, Copy)]
 enum Head {
     Padding,
     Fault,
@@ -86,7 +86,7 @@ enum Head {
 }
 
 // What the search of one chunk comes to: the offset of the record that holds pc.
-#[derive(Drop)]
+#[derive(Clone, Copy)]
 enum Searched {
     Held(usize),
     NotHeld,
@@ -94,7 +94,7 @@ enum Searched {
 }
 
 // Where a lookup ends: the offsets of the chunk and of the record.
-#[derive(Drop)]
+#[derive(Clone, Copy)]
 enum Place {
     At(usize, usize),
     None,

@@ -19,7 +19,7 @@ pub data Event : Type 0 where
   Move : (sp : ℕ) → Event
   Write : (address value : ℕ) → Event
 
--- a call pushes its return address (x86_64), or leaves it in the return register (aarch64)
+-- a call pushes its return address (x86-64), or leaves it in the return register (aarch64)
 unfoldable pub pushes : Arch → Bool
 pushes a = not (eqb a.entry_slot 0)
 
@@ -54,7 +54,7 @@ caller_described ts (f ∷ fs) new ret =
     && ltb (sp (numbers ts.arch) new.kept) f.cfa
 
 -- the rules of a call, one test a line: ret; CFA above 0; a pushed address lies in the stack; it meets no live slot; ret below 2^48
--- (on x86_64 below 2^64, which its place in a record gives); the caller is described; at most 1,024 frames
+-- (on x86-64 below 2^64, which its place in a record gives); the caller is described; at most 1,024 frames
 unfoldable pub call_allowed : Machine → Entry → ℕ → Bool
 call_allowed m e ret =
     returns m.frames (new_frame (arch_of m) m.registers e ret) ret

@@ -76,7 +76,7 @@ pub fn file(words: &[usize; 8192], from: usize, arch: u8) -> Regs {
 }
 
 // What a line lends: SBASE SLEN bytes KBASE KLEN bytes, from place 2 on; `rest` is the place after it.
-#[derive(Drop)]
+#[derive(Clone, Copy)]
 pub struct Ranges {
     pub section: [u8; 6144],
     pub section_base: usize,

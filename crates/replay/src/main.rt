@@ -71,7 +71,7 @@ fn check_case(words: &[usize; 8192]) -> bool {
 
 // Where the replay of a list stands: how many cases it has had, how many of them differ and which was the first, counted
 // from 1; the numbers of the present line that are read, and the digits of the next one so far.
-#[derive(Drop)]
+#[derive(Clone, Copy)]
 struct Progress {
     cases: usize,
     different: usize,

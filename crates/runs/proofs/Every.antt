@@ -57,7 +57,7 @@ every_aarch64 =
       ),
     )
 
--- of x86_64
+-- of x86-64
 abbrev pub of_x86 : List Scenario
 of_x86 =
     X86.caught ∷ X86.terminated ∷ X86.uncaught ∷ X86.in_leaf ∷ X86.over_unlinked ∷

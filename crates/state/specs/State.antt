@@ -39,7 +39,7 @@ with_first st reg slot =
       slots = set st.slots 0 slot;
     }
 
--- the entry state: sp, 0 units, no pair (aarch64); sp, 1 unit, (16, 1) (x86_64)
+-- the entry state: sp, 0 units, no pair (aarch64); sp, 1 unit, (16, 1) (x86-64)
 unfoldable pub entry : Arch → State
 entry a =
     if eqb a.entry_slot 0 then bare a.entry_units

@@ -8,7 +8,7 @@ fn main() {
 
 /// What cargo is told of the library that belongs to the crate in a folder.
 pub fn instructions(here: &Path) -> Vec<String> {
-    let folder = here.join("../target/staticlib");
+    let folder = here.join("../crates/capi/out");
     let library = folder.join("libcapi.a");
     // A file that is not there yet counts as changed, so the library is found once it is made.
     let mut lines = vec![format!("cargo::rerun-if-changed={}", library.display()), "cargo::rerun-if-changed=build.rs".to_string()];

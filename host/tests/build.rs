@@ -13,9 +13,9 @@ fn line<'a>(lines: &'a [String], key: &str) -> Option<&'a str> {
 fn a_missing_library_is_an_error_that_says_what_to_run() {
     let lines = script::instructions(Path::new("/nowhere/host"));
     let error = line(&lines, "cargo::error=").expect("an error");
-    assert!(error.contains("/nowhere/host/../target/staticlib/libcapi.a is missing: run host/build"), "{error}");
+    assert!(error.contains("/nowhere/host/../crates/capi/out/libcapi.a is missing: run host/build"), "{error}");
     assert_eq!(line(&lines, "cargo::rustc-link-lib="), None);
-    assert_eq!(line(&lines, "cargo::rerun-if-changed="), Some("/nowhere/host/../target/staticlib/libcapi.a"));
+    assert_eq!(line(&lines, "cargo::rerun-if-changed="), Some("/nowhere/host/../crates/capi/out/libcapi.a"));
 }
 
 #[test]

@@ -18,7 +18,7 @@ pub const STRUCTS: usize = 18;
 
 // A value of each struct that a function returns; and the sizes and alignments of all structs, in the order of `specs/Layout.antt`.
 #[repr(C)]
-#[derive(Drop)]
+#[derive(Clone, Copy)]
 pub struct Layout {
     pub number: Number,
     pub file: File,

@@ -37,7 +37,7 @@ pub const URC_END_OF_STACK: u32 = 5;
 
 // A number.
 #[repr(C)]
-#[derive(Drop)]
+#[derive(Clone, Copy)]
 pub struct Number {
     pub status: u32,
     pub value: usize,
@@ -45,7 +45,7 @@ pub struct Number {
 
 // A register file; for a refusal the one that came in.
 #[repr(C)]
-#[derive(Drop)]
+#[derive(Clone, Copy)]
 pub struct File {
     pub regs: Regs,
     pub status: u32,
@@ -53,7 +53,7 @@ pub struct File {
 
 // The record of a pc.
 #[repr(C)]
-#[derive(Drop)]
+#[derive(Clone, Copy)]
 pub struct Function {
     pub status: u32,
     pub found: Record,
@@ -61,7 +61,7 @@ pub struct Function {
 
 // A number of what is lent, and the address after it.
 #[repr(C)]
-#[derive(Drop)]
+#[derive(Clone, Copy)]
 pub struct Read {
     pub status: u32,
     pub value: usize,
@@ -70,7 +70,7 @@ pub struct Read {
 
 // A state; for a refusal the one that came in.
 #[repr(C)]
-#[derive(Drop)]
+#[derive(Clone, Copy)]
 pub struct Changed {
     pub status: u32,
     pub state: State,
@@ -78,7 +78,7 @@ pub struct Changed {
 
 // A run; for a refusal the entry state and 0.
 #[repr(C)]
-#[derive(Drop)]
+#[derive(Clone, Copy)]
 pub struct Ended {
     pub status: u32,
     pub state: State,
@@ -87,7 +87,7 @@ pub struct Ended {
 
 // A row.
 #[repr(C)]
-#[derive(Drop)]
+#[derive(Clone, Copy)]
 pub struct RowFound {
     pub status: u32,
     pub pad: usize,
@@ -96,7 +96,7 @@ pub struct RowFound {
 
 // A reason with its register file; for a refusal the file that came in.
 #[repr(C)]
-#[derive(Drop)]
+#[derive(Clone, Copy)]
 pub struct Decided {
     pub regs: Regs,
     pub status: u32,
@@ -105,7 +105,7 @@ pub struct Decided {
 
 // A frame step: past the frame its record, and its caller's number and file; else the frame's own.
 #[repr(C)]
-#[derive(Drop)]
+#[derive(Clone, Copy)]
 pub struct Stepped {
     pub regs: Regs,
     pub function: Record,
@@ -117,7 +117,7 @@ pub struct Stepped {
 // Up to 16 frames of a walk, and the frame that it goes on from; at the end, which is told as none, and for a refusal the frame
 // that came in.
 #[repr(C)]
-#[derive(Drop)]
+#[derive(Clone, Copy)]
 pub struct Batch {
     pub regs: Regs,
     pub frames: Frames,
@@ -128,7 +128,7 @@ pub struct Batch {
 
 // A throw: the reason 6 with the chosen frame's number and sp, 3 or 5; and the unwinding at frame 0, for a refusal with the file that came in.
 #[repr(C)]
-#[derive(Drop)]
+#[derive(Clone, Copy)]
 pub struct Raised {
     pub unwinding: Unwinding,
     pub number: usize,
@@ -140,7 +140,7 @@ pub struct Raised {
 // A sweep call: the reason 7 with the landing's frame number and file, or 2; none where it is finished. The unwinding is past
 // the frame that landed, else the one that came in.
 #[repr(C)]
-#[derive(Drop)]
+#[derive(Clone, Copy)]
 pub struct Resumed {
     pub regs: Regs,
     pub unwinding: Unwinding,

@@ -1,4 +1,4 @@
--- The preserved registers are those that document 01 names: 3, 6, 12 to 15 (x86_64); 19 to 30, 72 to 79 (aarch64). Assumes nothing.
+-- The preserved registers are those that document 01 names: 3, 6, 12 to 15 (x86-64); 19 to 30, 72 to 79 (aarch64). Assumes nothing.
 use mathlib.Core.Bool.{Bool, true, false, ◌&&◌, ◌||◌}
 use mathlib.Core.Path.{◌≡◌, refl}
 use Prim.Native.Nat.{ℕ, zero, suc, ◌+◌}

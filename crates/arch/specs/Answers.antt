@@ -1,6 +1,5 @@
 -- Document 01's number and values for each case of this crate's answers.
 use Rattle.std.specs.Prelude.{List, ◌≡◌, ℕ}
-use Rattle.failure.specs.Outcome as Outcome
 use Rattle.failure.specs.Outcome.{Outcome, Answer}
 use Rattle.failure.specs.Failure.{UnknownRegister}
 use Rattle.arch.specs.Arch.{Arch}

@@ -1,6 +1,5 @@
 -- The numbers of an architecture (document 01, "Kept from the Rust" and "Register files"). Registers go by DWARF numbers.
-use Rattle.std.specs.Prelude.{Bool, ◌||◌, List, [], ◌∷◌, ℕ, ◌%◌, ◌^◌, eqb}
-use Rattle.failure.specs.Choice.{if◌then◌else◌}
+use Rattle.std.specs.Prelude.{Bool, ◌||◌, List, [], ◌∷◌, ℕ, ◌%◌, ◌^◌, eqb, if◌then◌else◌}
 use Rattle.failure.specs.Outcome.{Outcome, Refused, Answer}
 use Rattle.failure.specs.Failure.{BadOpening}
 
@@ -80,6 +79,6 @@ is_known n = eqb n 1 || eqb n 2
 unfoldable pub known : ℕ → Outcome Arch
 known n = if is_known n then Answer (numbers n) else Refused BadOpening
 
--- strip_pac: the address modulo 2^48 on aarch64, itself on x86_64
+-- strip_pac: the address modulo 2^48 on aarch64, itself on x86-64
 abbrev pub strip_pac : Arch → ℕ → ℕ
 strip_pac a address = address % 2 ^ a.address_bits

@@ -1,7 +1,6 @@
 -- Register files (document 01, "Register files"): a list of 41 columns, which serves both architectures.
-use Rattle.std.specs.Prelude.{◌&&◌, List, ℕ, ◌+◌, ◌-◌, leb, ltb, get_or}
+use Rattle.std.specs.Prelude.{◌&&◌, List, ℕ, ◌+◌, ◌-◌, leb, ltb, get_or, if◌then◌else◌}
 use Rattle.std.proofs.Math.ListN as ListN
-use Rattle.failure.specs.Choice.{if◌then◌else◌}
 use Rattle.failure.specs.Outcome.{Outcome, Refused, Answer, ◌>>=◌}
 use Rattle.failure.specs.Failure.{UnknownRegister}
 use Rattle.arch.specs.Arch.{Arch}

@@ -39,7 +39,7 @@ const SAVED_AARCH64: [u16; 18] = [
 const SAVED_X86_64: [u16; 5] = [3, 12, 13, 14, 15];
 
 // The numbers of one architecture.
-#[derive(Drop)]
+#[derive(Clone, Copy)]
 pub struct Arch2 {
     // The bytes that an advance counts.
     pub unit: usize,
@@ -88,21 +88,21 @@ const X86_64_NUMBERS: Arch2 = Arch2 {
 };
 
 // The column of a register.
-#[derive(Drop)]
+#[derive(Clone, Copy)]
 pub enum Column {
     At(usize),
     Unknown,
 }
 
 // A number, or a refusal.
-#[derive(Drop)]
+#[derive(Clone, Copy)]
 pub enum Value {
     Is(usize),
     Refused(u32),
 }
 
 // Whether a call was refused.
-#[derive(Drop)]
+#[derive(Clone, Copy)]
 pub enum Status {
     Done,
     Refused(u32),
@@ -110,13 +110,13 @@ pub enum Status {
 
 // A register file of either architecture.
 #[repr(C)]
-#[derive(Drop)]
+#[derive(Clone, Copy)]
 pub struct Regs {
     pub r: [usize; COLUMNS],
 }
 
 // A register file after a call: the next one, or for a refusal the one that came in.
-#[derive(Drop)]
+#[derive(Clone, Copy)]
 pub struct Next {
     pub regs: Regs,
     pub status: Status,

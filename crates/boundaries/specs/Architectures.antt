@@ -1,6 +1,5 @@
 -- "28 opening broken, architecture not 1 or 2": in every function that hosts call, and what it hands back.
 use Rattle.std.specs.Prelude.{true, false, List, [], ◌∷◌, ◌++◌, ℕ, ◌+◌, ◌^◌}
-use Rattle.lookup.specs.declared.Record.{Record}
 use Rattle.model.specs.declared.Unwinding.{Unwinding}
 use Rattle.unwind.specs.declared.RaiseAnswer.{RaiseAnswer}
 use Rattle.unwind.specs.declared.RaiseAnswer.TheVariants as raise
@@ -20,7 +19,7 @@ use Rattle.answers.specs.declared.Raised.{Raised}
 use Rattle.answers.specs.declared.Resumed.{Resumed}
 use Rattle.answers.specs.declared.RowFound.{RowFound}
 use Rattle.boundaries.specs.Row.{Row, ◌gives◌, Right}
-use Rattle.boundaries.specs.Lending.{Target, x86_1, Lending, based, lending, plain, rowed, file_with, file, unwinding}
+use Rattle.boundaries.specs.Lending.{Target, x86_1, Lending, based, lending, rowed, file_with, file, unwinding}
 use Rattle.boundaries.specs.Structs.{number, file_is, function, read, changed, ended, row, decided, stepped, batch, raised, resumed, no_record, frames, state}
 use Rattle.boundaries.specs.Functions.{eko_strip_pac, eko_get, eko_fp, eko_sp, eko_set, eko_set_sp, eko_lookup, eko_read_uleb, eko_entry, eko_restore, eko_run, eko_apply, eko_step, eko_handler, eko_handler2, eko_personality, eko_next_frame, eko_walk, eko_raise, eko_resume, unwind}
 
@@ -40,7 +39,7 @@ by_opening f g refused accepted =
     f (based 0x1000 0xfa1 g) gives refused ∷
     f g gives accepted ∷ []
 
--- the tables of version 2 of an architecture; those that are not known have the files of x86_64 here
+-- the tables of version 2 of an architecture; those that are not known have the files of x86-64 here
 abbrev pub version2 : ℕ → Target
 version2 arch = record { arch = arch; version = 2 }
 
@@ -94,7 +93,7 @@ lookups =
 abbrev pub ulebs : List (Row Read)
 ulebs = by_opening (λ g. eko_read_uleb g 0x103c 0x1048) (lent_to 2) (read 28 0 0) (read 0 144 0x103e)
 
--- states: for `eko_entry` and `eko_run` the entry state of x86_64 is handed back, for `eko_restore` that which came in
+-- states: for `eko_entry` and `eko_run` the entry state of x86-64 is handed back, for `eko_restore` that which came in
 abbrev pub changes : List (Row Changed)
 changes =
     by_architecture eko_entry (changed 28 (state false 1 1 (16 ∷ []) (1 ∷ [])))

@@ -110,7 +110,7 @@ programs t =
     status_of t (saving 32 0 ++ (0xc4 ∷ 0x20 ∷ 0x80 ∷ 0x80 ∷ 4 ∷ [])) gives 18 ∷
     status_of t (saving 32 0 ++ (0xc4 ∷ 0x80 ∷ 0x80 ∷ 4 ∷ 1 ∷ [])) gives 18 ∷
     status_of t (saving 32 0 ++ (0xa0 ∷ [])) gives 30 ∷
-    -- a restore makes room; on x86_64 16 is saved again in the room that it made
+    -- a restore makes room; on x86-64 16 is saved again in the room that it made
     status_of t (saving 32 0 ++ (0xe1 ∷ 0xa0 ∷ 1 ∷ 0 ∷ [])) gives 0 ∷
     status_of t (saving 32 0 ++ (0xf0 ∷ 0 ∷ [])) gives 0 ∷ []
 

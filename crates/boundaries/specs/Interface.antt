@@ -1,6 +1,5 @@
 -- The C interface: what each struct holds for an answer, for none and for a refusal. A refusal hands back the file or state that came in.
-use Rattle.std.specs.Prelude.{true, false, List, [], ◌∷◌, ◌++◌, ℕ, ◌+◌, ◌-◌, ◌^◌, eqb, replicate}
-use Rattle.failure.specs.Choice.{if◌then◌else◌}
+use Rattle.std.specs.Prelude.{true, false, List, [], ◌∷◌, ◌++◌, ℕ, ◌-◌, ◌^◌, eqb, replicate, if◌then◌else◌}
 use Rattle.state.specs.declared.State.{State}
 use Rattle.answers.specs.declared.Number.{Number}
 use Rattle.answers.specs.declared.File.{File}
@@ -19,7 +18,7 @@ use Rattle.boundaries.specs.Functions.{eko_strip_pac, eko_get, eko_fp, eko_sp, e
 abbrev pub ours : Target → List ℕ
 ours t = file t 0x8010 0x8000 0x7777 0x4018
 
--- `eko_strip_pac`: "the address modulo 2^48 on aarch64 and changes nothing on x86_64"
+-- `eko_strip_pac`: "the address modulo 2^48 on aarch64 and changes nothing on x86-64"
 abbrev pub stripped : List (Row Number)
 stripped =
     eko_strip_pac 1 (2 ^ 48 - 1) gives number 0 (2 ^ 48 - 1) ∷
@@ -151,7 +150,7 @@ saves =
     eko_save (counting 33) 5 1 gives changed 28 (counting 33) ∷
     eko_save (counting 33) 6 0 gives changed 28 (counting 33) ∷ []
 
--- `eko_restore`: "Restore removes the pair, if any, .. and on x86_64 then saves 16 at slot 1 if 16 was named"
+-- `eko_restore`: "Restore removes the pair, if any, .. and on x86-64 then saves 16 at slot 1 if 16 was named"
 abbrev pub restores : List (Row Changed)
 restores =
     eko_restore 2 (state false 1 1 (16 ∷ []) (3 ∷ [])) 16 gives changed 0 (entry_of x86_2) ∷

@@ -1,6 +1,5 @@
 -- What the rows are asked about: a section, stacks and register files, byte by byte. Numbers with 0x are hexadecimal.
-use Rattle.std.specs.Prelude.{Bool, List, [], ◌∷◌, ◌++◌, ℕ, ◌%◌, ◌/◌, eqb}
-use Rattle.failure.specs.Choice.{if◌then◌else◌}
+use Rattle.std.specs.Prelude.{Bool, List, [], ◌∷◌, ◌++◌, ℕ, ◌%◌, ◌/◌, eqb, if◌then◌else◌}
 use Rattle.mem.specs.Memory.{Lent, lent}
 use Rattle.lookup.specs.declared.Record.{Record}
 use Rattle.model.specs.declared.Unwinding.{Unwinding}

@@ -10,9 +10,9 @@ pub record Range : Type 0 where
   pub size : ℕ
   pub base : ℕ
 
-infix 80 ◌bytesAt◌
-abbrev pub ◌bytesAt◌ : ℕ → ℕ → Range
-◌bytesAt◌ size base = record { size = size; base = base }
+infix 80 ◌bytes_at◌
+abbrev pub ◌bytes_at◌ : ℕ → ℕ → Range
+◌bytes_at◌ size base = record { size = size; base = base }
 
 -- a section and a stack with these bases and lengths are accepted
 abbrev pub accepts : Range → Range → Bool
@@ -92,7 +92,7 @@ shared =
     accepts ((2 ^ 31) bytes_at (2 ^ 62)) ((2 ^ 31) bytes_at (2 ^ 62 - 2 ^ 31)) gives true ∷
     accepts ((2 ^ 31) bytes_at (2 ^ 62)) ((2 ^ 31) bytes_at (2 ^ 62 - 2 ^ 31 + 1)) gives false ∷ []
 
--- "architecture 1 aarch64, 2 x86_64", and no other
+-- "architecture 1 aarch64, 2 x86-64", and no other
 abbrev pub architectures : List (Row Bool)
 architectures =
     is_known 0 gives false ∷

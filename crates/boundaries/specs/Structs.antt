@@ -1,5 +1,5 @@
 -- The structs of the C interface, by their fields: the status first, which is 0 for an answer, 1 for none, else the number of the refusal.
-use Rattle.std.specs.Prelude.{Bool, false, List, [], ◌∷◌, ◌++◌, ℕ, ◌-◌, length, replicate}
+use Rattle.std.specs.Prelude.{Bool, false, List, ◌++◌, ℕ, ◌-◌, length, replicate}
 use Rattle.lookup.specs.declared.Record.{Record}
 use Rattle.state.specs.declared.State.{State}
 use Rattle.model.specs.declared.Unwinding.{Unwinding}

@@ -6,7 +6,7 @@ use Rattle.answers.specs.declared.Batch.{Batch}
 use Rattle.answers.specs.declared.Raised.{Raised}
 use Rattle.answers.specs.declared.Resumed.{Resumed}
 use Rattle.boundaries.specs.Row.{Row, ◌gives◌, Right}
-use Rattle.boundaries.specs.Lending.{Target, based, lending, faulty, plain, rowed, file_with, file, unwinding}
+use Rattle.boundaries.specs.Lending.{Target, based, lending, faulty, plain, file_with, file, unwinding}
 use Rattle.boundaries.specs.Structs.{stepped, batch, raised, resumed, no_record, frames}
 use Rattle.boundaries.specs.Functions.{eko_next_frame, eko_walk, eko_raise, eko_resume}
 

@@ -1,5 +1,5 @@
 -- Walk: the frame step (document 01, "Walk, throw and call machine").
-use Rattle.std.specs.Prelude.{Bool, true, false, List, [], ◌∷◌, ℕ, ◌+◌, ◌-◌, ◌^◌}
+use Rattle.std.specs.Prelude.{Bool, true, false, List, [], ◌∷◌, ℕ, ◌-◌, ◌^◌}
 use Rattle.failure.specs.Outcome.{Outcome, Refused, Answer}
 use Rattle.lookup.specs.declared.Record.{Record}
 use Rattle.model.specs.FrameStep.{Step, End, Past}

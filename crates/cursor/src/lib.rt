@@ -11,14 +11,14 @@ ghost use Rattle.cursor.specs.Cursor as Cursor;
 use leb::{Byte, Uleb, byte_at, uleb_at};
 
 // The position of the next byte, and the limit.
-#[derive(Drop)]
+#[derive(Clone, Copy)]
 pub struct Bytes {
     pub pos: usize,
     pub end: usize,
 }
 
 // A number; the limit met before its end; no end in five bytes or above 2^32 - 1; no memory there.
-#[derive(Drop)]
+#[derive(Clone, Copy)]
 pub enum Value {
     Is(usize),
     Limit,
@@ -27,7 +27,7 @@ pub enum Value {
 }
 
 // A byte beside the position after it, or the position of a refusal; and whether the cursor moves.
-#[derive(Drop)]
+#[derive(Clone, Copy)]
 struct MovedByte {
     byte: Byte,
     pos: usize,
@@ -35,7 +35,7 @@ struct MovedByte {
 }
 
 // A number beside the position after it, or the position of a refusal; and whether the cursor moves.
-#[derive(Drop)]
+#[derive(Clone, Copy)]
 struct Moved {
     value: Value,
     pos: usize,

@@ -5,25 +5,20 @@
 
 use arch::{Regs, Value};
 use leb::Number;
-use libc::STDOUT_FILENO;
 use mem::opening;
 use rows::Row;
 use rows::handler2::handler2;
 use state::{State, Status};
+use std::io;
 
 mod faults;
 
 // Writes one comparison: a name, what came out, what should.
-fn line(name: &[u8], got: usize, should: usize) {
-    io::write_all(STDOUT_FILENO, name);
-    io::write_all(STDOUT_FILENO, b": ");
-    io::print_decimal(STDOUT_FILENO, got as u64);
+fn line(rt: &impl Print, name: &str, got: usize, should: usize) -> io::Result<()> {
     if got == should {
-        io::write_all(STDOUT_FILENO, b", as it should be\n");
+        println!(rt; "{name}: {got}, as it should be")
     } else {
-        io::write_all(STDOUT_FILENO, b", and it should be ");
-        io::print_decimal(STDOUT_FILENO, should as u64);
-        io::write_all(STDOUT_FILENO, b"\n");
+        println!(rt; "{name}: {got}, and it should be {should}")
     }
 }
 
@@ -50,18 +45,20 @@ fn row_at(bytes: &[u8], ret: u32) -> usize {
 }
 
 // Document 01's example that is not marked: a second delta of 0.
-fn ambiguous_row() {
+fn ambiguous_row(rt: &impl Print) -> io::Result<()> {
     let table = [2, 5, 0x29, 0, 0x40];
     line(
-        b"rows 02 05 29 00 40 at 5",
+        rt,
+        "rows 02 05 29 00 40 at 5",
         row_at(&table, 5),
         0x1_0000_0018,
-    );
+    )?;
     line(
-        b"rows 02 05 29 00 40 at 4",
+        rt,
+        "rows 02 05 29 00 40 at 4",
         row_at(&table, 4),
         0x2_0000_0000,
-    );
+    )
 }
 
 // Whether an opening is accepted: 1 or 0.
@@ -73,40 +70,46 @@ fn opened(section: &[u8], section_base: usize, stack: &[u8], stack_base: usize) 
 }
 
 // The edges of the opening rule.
-fn openings() {
-    line(b"section at 0", opened(b"four", 0, b"more", 0x2000), 0);
-    line(b"section at 1", opened(b"four", 1, b"more", 0x2000), 1);
+fn openings(rt: &impl Print) -> io::Result<()> {
+    line(rt, "section at 0", opened(b"four", 0, b"more", 0x2000), 0)?;
+    line(rt, "section at 1", opened(b"four", 1, b"more", 0x2000), 1)?;
     line(
-        b"stack at 2^62",
+        rt,
+        "stack at 2^62",
         opened(b"four", 0x1000, b"more", 0x4000_0000_0000_0000),
         1,
-    );
+    )?;
     line(
-        b"stack at 2^62 + 1",
+        rt,
+        "stack at 2^62 + 1",
         opened(b"four", 0x1000, b"more", 0x4000_0000_0000_0001),
         0,
-    );
+    )?;
     line(
-        b"stack after the section",
+        rt,
+        "stack after the section",
         opened(b"four", 0x1000, b"more", 0x1004),
         1,
-    );
+    )?;
     line(
-        b"stack meets the section",
+        rt,
+        "stack meets the section",
         opened(b"four", 0x1000, b"more", 0x1003),
         0,
-    );
+    )?;
     line(
-        b"section after the stack",
+        rt,
+        "section after the stack",
         opened(b"four", 0x1004, b"more", 0x1000),
         1,
-    );
+    )?;
     line(
-        b"empty stack in the section",
+        rt,
+        "empty stack in the section",
         opened(b"four", 0x1000, b"", 0x1002),
         1,
-    );
-    line(b"empty stack at 0", opened(b"four", 0x1000, b"", 0), 0);
+    )?;
+    line(rt, "empty stack at 0", opened(b"four", 0x1000, b"", 0), 0)
 }
 
 // The refusal of a value: its number, or 0.
@@ -118,28 +121,32 @@ fn refusal(v: Value) -> usize {
 }
 
 // Architectures other than 1 and 2 get 28, before an unknown register gets 11.
-fn architectures() {
+fn architectures(rt: &impl Print) -> io::Result<()> {
     let regs = Regs { r: [0; 41] };
     line(
-        b"register 99 of architecture 0",
+        rt,
+        "register 99 of architecture 0",
         refusal(regs.get(0, 99)),
         28,
-    );
+    )?;
     line(
-        b"register 99 of architecture 1",
+        rt,
+        "register 99 of architecture 1",
         refusal(regs.get(1, 99)),
         11,
-    );
+    )?;
     line(
-        b"register 16 of architecture 2",
+        rt,
+        "register 16 of architecture 2",
         refusal(regs.get(2, 16)),
         0,
-    );
+    )?;
     line(
-        b"register 16 of architecture 3",
+        rt,
+        "register 16 of architecture 3",
         refusal(regs.get(3, 16)),
         28,
-    );
+    )
 }
 
 // A state that counts so many pairs, all of register 7.
@@ -171,29 +178,29 @@ fn save_at(count: usize, reg: usize, slot: usize) -> usize {
 }
 
 // A state that counts more than 32 pairs gets 28.
-fn counts() {
-    line(b"save beside 32 pairs", save_at(32, 7, 2), 0);
-    line(b"save beside 33 pairs", save_at(33, 7, 2), 28);
+fn counts(rt: &impl Print) -> io::Result<()> {
+    line(rt, "save beside 32 pairs", save_at(32, 7, 2), 0)?;
+    line(rt, "save beside 33 pairs", save_at(33, 7, 2), 28)
 }
 
 // The DWARF standard's examples of unsigned LEB128 (version 5, section 7.6).
-fn dwarf_uleb() {
-    line(b"uleb 02", uleb_value(&[2]), 2);
-    line(b"uleb 7f", uleb_value(&[127]), 127);
-    line(b"uleb 80 01", uleb_value(&[0x80, 1]), 128);
-    line(b"uleb 81 01", uleb_value(&[0x81, 1]), 129);
-    line(b"uleb 82 01", uleb_value(&[0x82, 1]), 130);
-    line(b"uleb b9 64", uleb_value(&[0xb9, 0x64]), 12857);
+fn dwarf_uleb(rt: &impl Print) -> io::Result<()> {
+    line(rt, "uleb 02", uleb_value(&[2]), 2)?;
+    line(rt, "uleb 7f", uleb_value(&[127]), 127)?;
+    line(rt, "uleb 80 01", uleb_value(&[0x80, 1]), 128)?;
+    line(rt, "uleb 81 01", uleb_value(&[0x81, 1]), 129)?;
+    line(rt, "uleb 82 01", uleb_value(&[0x82, 1]), 130)?;
+    line(rt, "uleb b9 64", uleb_value(&[0xb9, 0x64]), 12857)
 }
 
-fn main() {
-    dwarf_uleb();
-    ambiguous_row();
-    openings();
-    architectures();
-    counts();
-    faults::programs();
-    faults::rows();
-    faults::reason();
-    faults::registers();
+fn main(rt: HostRuntime) -> io::Result<()> {
+    dwarf_uleb(&rt)?;
+    ambiguous_row(&rt)?;
+    openings(&rt)?;
+    architectures(&rt)?;
+    counts(&rt)?;
+    faults::programs(&rt)?;
+    faults::rows(&rt)?;
+    faults::reason(&rt)?;
+    faults::registers(&rt)
 }

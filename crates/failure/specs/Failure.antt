@@ -1,7 +1,6 @@
 -- The numbers with which a call is turned back, and who causes each (document 01, "Turned back, by who causes it", and document 02,
 -- request by request). The names are ps-unwind's; it has none from 27 on.
-use Rattle.std.specs.Prelude.{Bool, false, ◌||◌, List, [], ◌∷◌, ℕ, eqb}
-use Rattle.failure.specs.Choice.{if◌then◌else◌}
+use Rattle.std.specs.Prelude.{Bool, false, ◌||◌, List, [], ◌∷◌, ℕ, eqb, if◌then◌else◌}
 
 -- a fifth remember in a state program
 abbrev pub RememberStackOverflow : ℕ

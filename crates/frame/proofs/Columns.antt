@@ -28,7 +28,7 @@ each_at a [] e i h = absurd (omega arith)
 each_at a (reg ∷ regs) e zero h = e.0
 each_at a (reg ∷ regs) e (suc i) h = each_at a regs e.1 i (omega arith)
 
--- those of aarch64 and of x86_64
+-- those of aarch64 and of x86-64
 saved-each : (n : ℕ) → Each (numbers n) (numbers n).saved
 unfolding column_of
 saved-each n =

@@ -1,5 +1,6 @@
 -- A version 1 word that passes its rules steps as it is read: `step` is `apply` of base, units and pairs, where the CFA is above 0.
 -- Assumes nothing.
+use Rattle.std.specs.Prelude.{if◌then◌else◌}
 use mathlib.Core.Path.{◌≡◌, refl, sym, ◌∙◌, ap}
 use mathlib.Core.Bool.{Bool, true, false, not, ◌&&◌}
 use mathlib.Core.List.{List, [], ◌∷◌, ◌++◌}
@@ -9,13 +10,12 @@ use lib.Dec.{eqb, ltb}
 use lib.ListN as ListN
 use lib.ListN.{length, get_or}
 use lib.Seq.{get_or-set_same, set-get_or}
-use Rattle.failure.specs.Choice.{if◌then◌else◌}
 use Rattle.failure.specs.Outcome.{Outcome, Refused, Answer, ◌>>=◌}
 use Rattle.failure.specs.Failure.{Misaligned, OutsideMemory}
 use Rattle.mem.specs.Memory.{Memory}
 use Rattle.mem.specs.Wrapping.{sum}
 use Rattle.arch.specs.Arch.{Arch, numbers}
-use Rattle.arch.specs.File.{columns, get, set, fp, sp}
+use Rattle.arch.specs.File.{columns, get, set, sp}
 use Rattle.frame.specs.Layout.{Pair, base, cfa}
 use Rattle.frame.specs.Apply.{bad_fp, load_slot, restore_pairs, returned, apply_at, apply}
 use Rattle.frame.specs.Frame.{kind, leaf, on_fp, on_sp, reversed, mask, param, named, in_slots, first_slot, saved_pairs, fp_pair, ra_slot}

@@ -1,6 +1,5 @@
 -- Version 1 frame words (document 01, "Version 1 frames"): kind bits 0-1, order bit 2, mask bits 3-20, param bits 21-31.
-use Rattle.std.specs.Prelude.{Bool, List, [], ◌∷◌, ℕ, ◌+◌, ◌-◌, ◌%◌, ◌/◌, ◌^◌, eqb, length}
-use Rattle.failure.specs.Choice.{if◌then◌else◌}
+use Rattle.std.specs.Prelude.{Bool, List, [], ◌∷◌, ℕ, ◌+◌, ◌-◌, ◌%◌, ◌/◌, ◌^◌, eqb, length, if◌then◌else◌}
 use Rattle.arch.specs.Arch.{Arch}
 use Rattle.frame.specs.Layout.{Pair}
 

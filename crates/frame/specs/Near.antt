@@ -1,6 +1,5 @@
 -- Frames whose slots lie in the stack, so that none of them is refused: what the code tests before it stores in place.
-use Rattle.std.specs.Prelude.{List, ◌⊎◌, ◌≡◌, false, ℕ, ◌+◌, ◌-◌, ◌*◌, ◌≤◌, ◌<◌, ltb, length, get_or, take, drop}
-use Rattle.failure.specs.Choice.{if◌then◌else◌}
+use Rattle.std.specs.Prelude.{List, ◌⊎◌, ◌≡◌, false, ℕ, ◌+◌, ◌-◌, ◌*◌, ◌≤◌, ◌<◌, ltb, length, get_or, take, drop, if◌then◌else◌}
 use Rattle.failure.specs.Outcome.{Refused}
 use Rattle.mem.specs.Word.{little_endian}
 use Rattle.arch.specs.Arch.{Arch}

@@ -1,7 +1,6 @@
 -- What the public functions answer: 28 for an opening that is not accepted, then for an architecture other than 1 and 2, then for a
 -- state that counts more than 32 pairs, before anything else.
-use Rattle.std.specs.Prelude.{Bool, List, ℕ}
-use Rattle.failure.specs.Choice.{if◌then◌else◌}
+use Rattle.std.specs.Prelude.{Bool, List, ℕ, if◌then◌else◌}
 use Rattle.failure.specs.Outcome.{Outcome, Refused, ◌>>=◌}
 use Rattle.failure.specs.Failure.{BadOpening}
 use Rattle.mem.specs.Memory.{Lent}

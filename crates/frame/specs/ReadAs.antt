@@ -1,6 +1,5 @@
 -- A version 1 frame word read as base, units and pairs.
-use Rattle.std.specs.Prelude.{Bool, not, ◌&&◌, ◌||◌, List, [], ◌∷◌, ◌++◌, ℕ, ◌+◌, ◌*◌, eqb, ltb}
-use Rattle.failure.specs.Choice.{if◌then◌else◌}
+use Rattle.std.specs.Prelude.{Bool, not, ◌&&◌, ◌||◌, List, [], ◌∷◌, ◌++◌, ℕ, ◌+◌, ◌*◌, eqb, ltb, if◌then◌else◌}
 use Rattle.arch.specs.Arch.{Arch}
 use Rattle.frame.specs.Layout.{Pair, Layout}
 use Rattle.frame.specs.Frame.{kind, leaf, on_fp, on_sp, mask, param, saved_pairs, fp_pair, ra_slot}

@@ -1,6 +1,5 @@
 -- `step`: the caller's registers from a version 1 frame word (document 01, "Version 1 frames").
-use Rattle.std.specs.Prelude.{Bool, not, ◌&&◌, ◌||◌, List, ℕ, ◌+◌, ◌*◌, ◌/◌, ◌^◌, eqb, ltb, length}
-use Rattle.failure.specs.Choice.{if◌then◌else◌}
+use Rattle.std.specs.Prelude.{Bool, not, ◌&&◌, ◌||◌, List, ℕ, ◌+◌, ◌*◌, ◌/◌, ◌^◌, eqb, ltb, length, if◌then◌else◌}
 use Rattle.failure.specs.Outcome.{Outcome, Refused, Answer, ◌>>=◌}
 use Rattle.failure.specs.Failure.{BadEkoRecord, EkoAsyncFrame, Misaligned}
 use Rattle.mem.specs.Memory.{Memory}
@@ -14,7 +13,7 @@ use Rattle.frame.specs.Frame.{kind, leaf, on_fp, on_sp, mask, param, saved_pairs
 unfoldable pub past_table : Arch → ℕ → Bool
 past_table a frame = not (eqb (mask frame / 2 ^ length a.saved) 0)
 
--- leaf: sp + 16 * param, and what entry has above sp (8 on x86_64)
+-- leaf: sp + 16 * param, and what entry has above sp (8 on x86-64)
 unfoldable pub leaf_cfa : Arch → ℕ → Bool → ℕ → Outcome ℕ
 leaf_cfa a frame first s =
     if not (eqb (mask frame) 0) || not first then Refused BadEkoRecord
@@ -48,7 +47,7 @@ unfoldable pub return_address : Arch → Memory → ℕ → ℕ → List ℕ →
 return_address a m at slot file =
     if eqb slot 0 then get a file a.ra else load_slot m at slot
 
--- the return register is set to the whole return address (30 on aarch64; on x86_64 it is pc, which is set last on both), then sp and pc
+-- the return register is set to the whole return address (30 on aarch64; on x86-64 it is pc, which is set last on both), then sp and pc
 unfoldable pub set_return : Arch → ℕ → ℕ → List ℕ → Outcome (List ℕ)
 set_return a at ra file = do
   next ← set a file a.ra ra

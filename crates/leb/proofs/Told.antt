@@ -1,9 +1,9 @@
 -- The papers' outcome of a byte and of a number is what the reader's cases come to. Assumes nothing.
+use Rattle.std.specs.Prelude.{if◌then◌else◌}
 use mathlib.Core.Path.{◌≡◌, refl, sym, ◌∙◌, ap}
 use mathlib.Core.Bool.{Bool, true, false}
 use Prim.Native.Nat.{ℕ, zero, suc, ◌+◌, ◌-◌, ◌*◌, ◌^◌}
 use lib.Dec.{leb, ltb}
-use Rattle.failure.specs.Choice.{if◌then◌else◌}
 use Rattle.failure.specs.Outcome.{Outcome, Refused, Answer, ◌>>=◌}
 use Rattle.failure.specs.Failure.{EkoTruncated, BadUleb}
 use Rattle.mem.specs.Memory.{Memory}

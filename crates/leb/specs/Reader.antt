@@ -1,8 +1,7 @@
 -- The number reader (document 01, "The state program": "Uleb: DWARF's, padding allowed, at most 5 bytes, at most 2^32 - 1"). Its faults
 -- have the numbers of document 02 (c): 30 for the limit, 31 for the number (`numbered`, `numbered_byte`). What comes of that is the
 -- papers' outcome, `read_byte` and `read_number`.
-use Rattle.std.specs.Prelude.{ℕ, zero, suc, ◌+◌, ◌-◌, ◌*◌, ◌^◌, leb, ltb}
-use Rattle.failure.specs.Choice.{if◌then◌else◌}
+use Rattle.std.specs.Prelude.{ℕ, zero, suc, ◌+◌, ◌-◌, ◌*◌, ◌^◌, leb, ltb, if◌then◌else◌}
 use Rattle.failure.specs.Outcome.{Outcome, Refused, Answer, ◌>>=◌}
 use Rattle.failure.specs.Failure.{OutsideMemory, BadOpening, EkoTruncated, BadUleb}
 use Rattle.mem.specs.Memory.{Memory, Lent}

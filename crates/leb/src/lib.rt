@@ -11,7 +11,7 @@ use mem::load::Word;
 use mem::{load, opening};
 
 // The byte at a position, the limit met before it, or no memory there.
-#[derive(Drop)]
+#[derive(Clone, Copy)]
 pub enum Byte {
     Is(u8),
     Limit,
@@ -19,7 +19,7 @@ pub enum Byte {
 }
 
 // A number and the position after it; the limit met before its end; no end in five bytes or above 2^32 - 1; no memory there.
-#[derive(Drop)]
+#[derive(Clone, Copy)]
 pub enum Uleb {
     Is(usize, usize),
     Limit,
@@ -28,7 +28,7 @@ pub enum Uleb {
 }
 
 // A number and the position after it, or a refusal.
-#[derive(Drop)]
+#[derive(Clone, Copy)]
 pub enum Number {
     Is(usize, usize),
     Refused(u32),

@@ -1,4 +1,5 @@
 -- Laws of `stride`, `faulty` and `head_at`. Assumes nothing.
+use Rattle.std.specs.Prelude.{if◌then◌else◌}
 use mathlib.Core.Path.{◌≡◌, refl, sym, ◌∙◌, ap, subst}
 use mathlib.Core.Bool.{Bool, true, false, not, ◌||◌, or-true}
 use mathlib.Core.List.{List}
@@ -7,7 +8,6 @@ use native.Mathlib.Omega.{arith}
 use lib.Dec.{eqb, ltb}
 use lib.ListN.{length, get_or}
 use borrow.Author.Tests.{eq-eqb, ne_eqb, lt-ltb, le-ltb, eqb-true, eqb-false, ltb-false}
-use Rattle.failure.specs.Choice.{if◌then◌else◌}
 use Rattle.mem.proofs.Tests.{leb_same}
 use Rattle.lookup.specs.Field.{word}
 use Rattle.lookup.specs.Header.{stride, chunk_at, faulty, head_at}

@@ -1,4 +1,4 @@
--- Laws of `inRange` and `search_in`. Assumes nothing.
+-- Laws of `in_range` and `search_in`. Assumes nothing.
 use mathlib.Core.Path.{◌≡◌}
 use mathlib.Core.Bool.{true, false, and-false}
 use mathlib.Core.List.{List}

@@ -1,4 +1,5 @@
 -- Lookup in sound tables. Assumes nothing.
+use Rattle.std.specs.Prelude.{if◌then◌else◌}
 use mathlib.Core.Path.{◌≡◌, refl, sym, ◌∙◌, ap, subst}
 use mathlib.Core.Bool.{Bool, true, false, ◌&&◌}
 use mathlib.Core.List.Memᴰ
@@ -9,7 +10,6 @@ use Prim.Native.Nat.{ℕ, zero, suc, ◌+◌, ◌≤◌, ◌<◌}
 use native.Mathlib.Omega.{arith}
 use lib.Dec.{eqb}
 use borrow.Author.Tests.{eqb-true, eqb-false}
-use Rattle.failure.specs.Choice.{if◌then◌else◌}
 use Rattle.failure.specs.Outcome.{Answer}
 use Rattle.lookup.specs.Record.{record_of, holds}
 use Rattle.lookup.specs.Tables.{Chunks, End, Fault, ◌▸◌, chunks, Entry, entry, entries_of, entries, records, named}

@@ -1,6 +1,5 @@
 -- Chunk headers (document 01, "Chunks and records").
-use Rattle.std.specs.Prelude.{Bool, not, ◌||◌, List, ℕ, ◌+◌, ◌*◌, ◌%◌, eqb, ltb, length}
-use Rattle.failure.specs.Choice.{if◌then◌else◌}
+use Rattle.std.specs.Prelude.{Bool, not, ◌||◌, List, ℕ, ◌+◌, ◌*◌, ◌%◌, eqb, ltb, length, if◌then◌else◌}
 use Rattle.lookup.specs.Field.{word}
 use Rattle.lookup.specs.declared.Chunk.{Chunk}
 use Rattle.lookup.specs.declared.Head.{Head}

@@ -1,6 +1,5 @@
 -- Records (document 01, "Chunks and records"). A record's start and end are sums that wrap at 2^64.
-use Rattle.std.specs.Prelude.{Bool, not, ◌&&◌, ◌||◌, List, ℕ, ◌+◌, ◌*◌, ◌^◌, ◌%◌, eqb, leb, ltb}
-use Rattle.failure.specs.Choice.{if◌then◌else◌}
+use Rattle.std.specs.Prelude.{Bool, not, ◌&&◌, ◌||◌, List, ℕ, ◌+◌, ◌*◌, ◌^◌, ◌%◌, eqb, leb, ltb, if◌then◌else◌}
 use Rattle.mem.specs.Wrapping.{sum, signed32}
 use Rattle.lookup.specs.Field.{word}
 use Rattle.lookup.specs.declared.Chunk.{Chunk}

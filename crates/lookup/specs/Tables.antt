@@ -1,7 +1,6 @@
 -- The chunks of a part, and the part's one list of records in section order.
-use Rattle.std.specs.Prelude.{Bool, true, false, ◌&&◌, List, [], ◌∷◌, ◌++◌, ℕ, zero, suc, ◌+◌, eqb, ltb, length}
+use Rattle.std.specs.Prelude.{Bool, true, false, ◌&&◌, List, [], ◌∷◌, ◌++◌, ℕ, zero, suc, ◌+◌, eqb, ltb, length, if◌then◌else◌}
 use Rattle.std.proofs.Math.Option.{Option, none, some}
-use Rattle.failure.specs.Choice.{if◌then◌else◌}
 use Rattle.lookup.specs.Header.{head_at}
 use Rattle.lookup.specs.Record.{record_of}
 use Rattle.lookup.specs.declared.Chunk.{Chunk}

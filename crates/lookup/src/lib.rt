@@ -4,8 +4,7 @@
 // first, and `chunk_of`, which has to return a part, gives the empty part wherever `lookup_arch` finds no record.
 #![tactic(auto)]
 
-ghost use Rattle.std.specs.Prelude.{◌≡◌, ◌+◌, ◌^◌, ◌<◌, ◌≤◌, length};
-ghost use Rattle.failure.specs.Choice.{if◌then◌else◌};
+ghost use Rattle.std.specs.Prelude.{◌≡◌, ◌+◌, ◌^◌, ◌<◌, ◌≤◌, length, if◌then◌else◌};
 ghost use Rattle.std.proofs.Math.Option.{none, some};
 ghost use Rattle.failure.specs.Outcome.{Answer};
 ghost use Rattle.lookup.specs.Field.{word};
@@ -68,7 +67,7 @@ pub struct Chunk {
 }
 
 // What looking a pc up comes to; an offset counts from the first byte of what was searched.
-#[derive(Drop)]
+#[derive(Clone, Copy)]
 pub enum Lookup {
     Found(Record, Chunk),
     None,
@@ -79,7 +78,7 @@ pub enum Lookup {
 }
 
 // What stands where 16 bytes remain.
-#[derive(Drop)]
+#[derive(Clone, Copy)]
 enum Head {
     Padding,
     Fault,
@@ -87,7 +86,7 @@ enum Head {
 }
 
 // What the search of one chunk comes to: the offset of the record that holds pc.
-#[derive(Drop)]
+#[derive(Clone, Copy)]
 enum Searched {
     Held(usize),
     NotHeld,
@@ -95,7 +94,7 @@ enum Searched {
 }
 
 // Where a lookup ends: the offsets of the chunk and of the record.
-#[derive(Drop)]
+#[derive(Clone, Copy)]
 enum Place {
     At(usize, usize),
     None,

@@ -1,6 +1,5 @@
 -- Sums of addresses, which wrap at 2^64.
-use Rattle.std.specs.Prelude.{ℕ, ◌+◌, ◌-◌, ◌%◌, ◌^◌, nat_lt}
-use Rattle.failure.specs.Choice.{if◌then◌else◌}
+use Rattle.std.specs.Prelude.{ℕ, ◌+◌, ◌-◌, ◌%◌, ◌^◌, nat_lt, if◌then◌else◌}
 
 -- a + b modulo 2^64
 abbrev pub sum : ℕ → ℕ → ℕ

@@ -6,7 +6,7 @@ ghost use Rattle.mem.specs.Part.{PartOf};
 ghost use Rattle.mem.specs.Word.{little_endian, loaded, word_in, Below, Loaded};
 
 // Where bytes stand: an offset in the section or in the stack.
-#[derive(Drop)]
+#[derive(Clone, Copy)]
 pub enum Place {
     Section(usize),
     Stack(usize),
@@ -14,7 +14,7 @@ pub enum Place {
 }
 
 // A number read from memory, or 27.
-#[derive(Drop)]
+#[derive(Clone, Copy)]
 pub enum Word {
     Value(usize),
     Outside,

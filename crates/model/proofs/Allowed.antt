@@ -1,8 +1,8 @@
 -- Choices by a test: what an event does where its guard allows it, and where it leaves the machine as it was. Assumes nothing.
+use Rattle.std.specs.Prelude.{if◌then◌else◌}
 use mathlib.Core.Path.{◌≡◌, refl}
 use mathlib.Core.Bool.{Bool, true, false, not, ◌||◌}
 use mathlib.Core.List.{List, [], ◌∷◌}
-use Rattle.failure.specs.Choice.{if◌then◌else◌}
 use Rattle.model.specs.Machine.{Open, Machine}
 use Rattle.model.proofs.Chain.{Inv}
 

@@ -15,7 +15,7 @@ use Rattle.mem.specs.Memory.{Region, Memory}
 use Rattle.mem.specs.Opening.{opens}
 use Rattle.mem.specs.Wrapping.{sum}
 use Rattle.arch.specs.Arch.{Arch, numbers, strip_pac}
-use Rattle.arch.specs.File.{pc_column, fp, sp, pc, set_sp}
+use Rattle.arch.specs.File.{pc_column, fp, pc, set_sp}
 use Rattle.arch.proofs.File.{get_at}
 use Rattle.lookup.specs.declared.Record.{Record}
 use Rattle.program.specs.Run.{Ran, run}

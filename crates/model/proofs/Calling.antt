@@ -1,4 +1,5 @@
 -- The two files of a call: the registers as it leaves them, and the file that is kept. Assumes nothing.
+use Rattle.std.specs.Prelude.{if◌then◌else◌}
 use mathlib.Core.Path.{◌≡◌, refl}
 use mathlib.Core.List.{List}
 use Prim.Native.Nat.{ℕ, ◌-◌, ◌^◌, ◌≤◌, ◌<◌}
@@ -6,7 +7,6 @@ use native.Mathlib.Nat.{le_refl}
 use native.Mathlib.Omega.{arith}
 use lib.ListN.{get_or, set}
 use lib.Seq.{get_or-set_same, get_or-set_other}
-use Rattle.failure.specs.Choice.{if◌then◌else◌}
 use Rattle.arch.specs.Arch.{Arch, numbers}
 use Rattle.arch.specs.File.{pc_column, sp, pc, set_sp}
 use Rattle.model.specs.Machine.{column, value}

@@ -1,5 +1,6 @@
 -- The cleanup phase gives the next landing that is due, over any stack that has the kept values in the live slots of the frames that it
 -- passes. Assumes nothing.
+use Rattle.std.specs.Prelude.{if◌then◌else◌}
 use mathlib.Core.Bool.{Bool, true, false}
 use mathlib.Core.List.{List, [], ◌∷◌}
 use mathlib.Core.Option.{some}
@@ -9,7 +10,6 @@ use native.Mathlib.Omega.{arith}
 use lib.Dec.{eqb, ltb}
 use lib.ListN.{length, drop, get_elem?}
 use borrow.Author.Tests.{eq-eqb, lt-ltb, le-ltb}
-use Rattle.failure.specs.Choice.{if◌then◌else◌}
 use Rattle.failure.specs.Outcome.{Outcome, Answer}
 use Rattle.mem.specs.Memory.{Region}
 use Rattle.mem.proofs.Tests.{both}

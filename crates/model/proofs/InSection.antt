@@ -1,4 +1,5 @@
 -- Where the program, the limit and the table of a record lie: in the section, whose sums do not wrap. Assumes nothing.
+use Rattle.std.specs.Prelude.{if◌then◌else◌}
 use mathlib.Core.Path.{◌≡◌, refl, sym, ap, subst}
 use mathlib.Core.Bool.{Bool, true, false}
 use mathlib.Core.List.Memᴰ
@@ -10,7 +11,6 @@ use native.Mathlib.Omega.{arith}
 use lib.Dec.{eqb, ltb, lit<}
 use lib.ListN.{get_or, take, drop}
 use lib.Seq.{get_or-drop}
-use Rattle.failure.specs.Choice.{if◌then◌else◌}
 use Rattle.mem.specs.Memory.{Region, Memory, size}
 use Rattle.mem.specs.Opening.{opens}
 use Rattle.mem.specs.Word.{little_endian}

@@ -3,15 +3,15 @@
 use mathlib.Core.Bool.{Bool, true, false, ◌&&◌, ◌||◌}
 use mathlib.Core.List.{List, [], ◌∷◌}
 use mathlib.Core.Logic.{inl, inr}
-use mathlib.Core.Path.{◌≡◌, refl, sym, ap, subst}
+use mathlib.Core.Path.{◌≡◌, refl, sym, subst}
 use Prim.Native.Nat.{ℕ, ◌+◌, ◌-◌}
 use native.Mathlib.Omega.{arith}
-use lib.Dec.{eqb, ltb}
-use borrow.Author.Tests.{eqb-true, ne_eqb, le-ltb}
+use lib.Dec.{eqb}
+use borrow.Author.Tests.{eqb-true, le-ltb}
 use Rattle.mem.proofs.Tests.{both}
 use Rattle.arch.specs.Arch.{numbers}
 use Rattle.arch.specs.File.{pc}
-use Rattle.rows.specs.Row.{Pad, cleanup, catch, terminate}
+use Rattle.rows.specs.Row.{Pad, terminate}
 use Rattle.rows.specs.Handler.{Entry}
 use Rattle.rows.specs.Prefix.{row_at}
 use Rattle.rows.specs.NotRefused.{not_refused, well_formed, none_or_well_formed, Ending, complete, through, deltas_above0, reached, followed, answered}

@@ -1,6 +1,5 @@
 -- The cleanup phase: the next landing of an unwinding (document 01, "Walk, throw and call machine": a sweep call).
-use Rattle.std.specs.Prelude.{◌&&◌, List, [], ◌∷◌, ℕ, zero, suc, eqb, ltb}
-use Rattle.failure.specs.Choice.{if◌then◌else◌}
+use Rattle.std.specs.Prelude.{◌&&◌, List, [], ◌∷◌, ℕ, zero, suc, eqb, ltb, if◌then◌else◌}
 use Rattle.failure.specs.Outcome.{Outcome, Refused, Answer, ◌>>=◌}
 use Rattle.failure.specs.Failure.{TooManyFrames, HandlerFrameMissed}
 use Rattle.mem.specs.Memory.{Lent}

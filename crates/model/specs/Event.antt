@@ -1,7 +1,6 @@
 -- The events of the call machine, the rules of each, and what each does (document 01, "Events").
-use Rattle.std.specs.Prelude.{Bool, true, not, ◌&&◌, ◌||◌, List, [], ◌∷◌, ℕ, ◌-◌, ◌^◌, eqb, leb, ltb, length, set}
+use Rattle.std.specs.Prelude.{Bool, true, not, ◌&&◌, ◌||◌, List, [], ◌∷◌, ℕ, ◌-◌, ◌^◌, eqb, leb, ltb, length, set, if◌then◌else◌}
 use Rattle.std.proofs.Math.Option.{Option, none, some}
-use Rattle.failure.specs.Choice.{if◌then◌else◌}
 use Rattle.failure.specs.Failure.{one_of}
 use Rattle.arch.specs.Arch.{Arch, numbers}
 use Rattle.arch.specs.File.{sp, set_sp, set_pc, pc_column}
@@ -20,7 +19,7 @@ pub data Event : Type 0 where
   Move : (sp : ℕ) → Event
   Write : (address value : ℕ) → Event
 
--- a call pushes its return address (x86_64), or leaves it in the return register (aarch64)
+-- a call pushes its return address (x86-64), or leaves it in the return register (aarch64)
 unfoldable pub pushes : Arch → Bool
 pushes a = not (eqb a.entry_slot 0)
 
@@ -55,7 +54,7 @@ caller_described ts (f ∷ fs) new ret =
     && ltb (sp (numbers ts.arch) new.kept) f.cfa
 
 -- the rules of a call, one test a line: ret; CFA above 0; a pushed address lies in the stack; it meets no live slot; ret below 2^48
--- (on x86_64 below 2^64, which its place in a record gives); the caller is described; at most 1,024 frames
+-- (on x86-64 below 2^64, which its place in a record gives); the caller is described; at most 1,024 frames
 unfoldable pub call_allowed : Machine → Entry → ℕ → Bool
 call_allowed m e ret =
     returns m.frames (new_frame (arch_of m) m.registers e ret) ret

@@ -1,8 +1,7 @@
 -- What a throw and its sweep calls must give, computed from the machine's frames and their rows alone.
-use Rattle.std.specs.Prelude.{List, [], ◌∷◌, map, ℕ, zero, suc, ◌+◌, ◌%◌, ◌^◌, eqb}
-use Rattle.failure.specs.Choice.{if◌then◌else◌}
+use Rattle.std.specs.Prelude.{List, [], ◌∷◌, map, ℕ, zero, suc, ◌+◌, ◌%◌, ◌^◌, eqb, if◌then◌else◌}
 use Rattle.arch.specs.Arch.{Arch, numbers}
-use Rattle.arch.specs.File.{sp, pc}
+use Rattle.arch.specs.File.{sp}
 use Rattle.rows.specs.Row.{Found, None, Pad, cleanup, catch}
 use Rattle.model.specs.Search.{Searched, Chosen, Stopped, Ended}
 use Rattle.model.specs.Machine.{Tables, Machine, value}

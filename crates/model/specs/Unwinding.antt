@@ -1,6 +1,5 @@
 -- `raise` and `resume` (document 01: throw and sweep), and the unwinding that goes from call to call.
-use Rattle.std.specs.Prelude.{Bool, true, false, List, ℕ}
-use Rattle.failure.specs.Choice.{if◌then◌else◌}
+use Rattle.std.specs.Prelude.{Bool, true, false, List, ℕ, if◌then◌else◌}
 use Rattle.failure.specs.Outcome.{Outcome, Refused, Answer}
 use Rattle.failure.specs.Failure.{BadOpening}
 use Rattle.mem.specs.Memory.{Lent}

@@ -7,7 +7,7 @@ use arch::Regs;
 // An unwinding: the frame that comes next, by its file, its number and whether it is interrupted; the exception; and the frame that
 // the search chose, by its number and sp, if it chose one.
 #[repr(C)]
-#[derive(Drop)]
+#[derive(Clone, Copy)]
 pub struct Unwinding {
     pub regs: Regs,
     pub number: usize,

@@ -23,7 +23,7 @@ use Rattle.rows.specs.declared.Row.TheVariants as row-case
 use Rattle.rows.specs.Handler.{handler}
 use Rattle.rows.specs.Handler2.{handler2}
 use Rattle.lookup.specs.declared.Record.{Record}
-use Rattle.personality.specs.Reason.{rowless, offset_in, row_after, row_of, Reason, reason, continue_unwind, install_context, installed, searched_code, cleaned, meant_by}
+use Rattle.personality.specs.Reason.{rowless, offset_in, row_after, row_of, reason, continue_unwind, install_context, installed, searched_code, cleaned, meant_by}
 use Rattle.personality.specs.Answers.{decided}
 use Rattle.personality.specs.declared.Phase.{Phase}
 use Rattle.personality.specs.declared.Phase.TheVariants.{Search, Cleanup}

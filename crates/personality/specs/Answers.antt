@@ -1,8 +1,6 @@
 -- Document 01's number and values for a personality's answer.
-use Rattle.failure.specs.Outcome as Outcome
 use Rattle.failure.specs.Outcome.{Outcome, Answer}
 use Rattle.arch.specs.declared.Regs.{Regs}
-use Rattle.personality.specs.Reason as Reason
 use Rattle.personality.specs.Reason.{Reason}
 use Rattle.personality.specs.declared.Code.TheVariants as code
 use Rattle.personality.specs.declared.Decided.{Decided}

@@ -1,6 +1,5 @@
 -- `personality`: what a frame's row means in each phase (document 01, "Rows and reasons"; Itanium C++ ABI codes).
-use Rattle.std.specs.Prelude.{Bool, ◌||◌, List, ℕ, ◌-◌, ◌^◌, ◌%◌, eqb, ltb}
-use Rattle.failure.specs.Choice.{if◌then◌else◌}
+use Rattle.std.specs.Prelude.{Bool, ◌||◌, List, ℕ, ◌-◌, ◌^◌, ◌%◌, eqb, ltb, if◌then◌else◌}
 use Rattle.failure.specs.Outcome.{Outcome, Refused, Answer, ◌>>=◌}
 use Rattle.failure.specs.Failure.{BadOpening}
 use Rattle.mem.specs.Memory.{Memory, Lent}

@@ -30,21 +30,21 @@ pub const URC_INSTALL_CONTEXT: u32 = 7;
 pub const URC_CONTINUE_UNWIND: u32 = 8;
 
 // The two phases of an unwinding.
-#[derive(Drop)]
+#[derive(Clone, Copy)]
 pub enum Phase {
     Search,
     Cleanup,
 }
 
 // A reason's code, or a refusal.
-#[derive(Drop)]
+#[derive(Clone, Copy)]
 pub enum Code {
     Reason(u32),
     Refused(u32),
 }
 
 // A reason with the register file that goes with it; for a refusal the file that came in.
-#[derive(Drop)]
+#[derive(Clone, Copy)]
 pub struct Decided {
     pub regs: Regs,
     pub code: Code,

@@ -1,10 +1,10 @@
 -- Laws of `form_of` at the runs of first bytes that share a form. Assumes nothing.
+use Rattle.std.specs.Prelude.{if◌then◌else◌}
 use mathlib.Core.Path.{◌≡◌}
 use Prim.Native.Nat.{ℕ, ◌-◌, ◌≤◌, ◌<◌}
 use native.Mathlib.Omega.{arith}
 use lib.Dec.{ltb}
 use borrow.Author.Tests.{lt-ltb, le-ltb, ne_eqb}
-use Rattle.failure.specs.Choice.{if◌then◌else◌}
 use Rattle.program.specs.declared.decode.Rule.TheVariants as rule
 use Rattle.program.specs.declared.decode.Op.TheVariants.{Advance, Set}
 use Rattle.program.specs.declared.decode.Incomplete.TheVariants as incomplete

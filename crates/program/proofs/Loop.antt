@@ -10,7 +10,6 @@ use lib.ListN.{length, get_or}
 use lib.ListN as ListN
 use lib.Seq.{get_or-set_same, get_or-set_other}
 use borrow.Author.Tests.{lt-ltb, le-ltb, eq-eqb, ne_eqb, ltb-true, ltb-false}
-use Rattle.failure.specs.Outcome as Outcome
 use Rattle.failure.specs.Outcome.{Outcome, Answer}
 use Rattle.failure.specs.Failure.{BadEkoRecord, RememberStackOverflow, EkoTruncated}
 use Rattle.mem.specs.Memory.{Memory}

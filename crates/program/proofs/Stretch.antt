@@ -1,5 +1,6 @@
 -- The stretch of offsets at which a run ends as it does: from the offset reached by the last advance to the target of the advance
 -- that ended it. All offsets of a stretch give the same run. Assumes nothing.
+use Rattle.std.specs.Prelude.{if◌then◌else◌}
 use mathlib.Core.Path.{◌≡◌, refl, sym, ap, subst}
 use mathlib.Core.Bool.{Bool, true, false}
 use mathlib.Core.Option.{Option, some, none}
@@ -9,8 +10,6 @@ use native.Mathlib.Omega.{arith}
 use lib.Dec.{eqb, ltb}
 use lib.ListN.{length}
 use borrow.Author.Tests.{lt-ltb, le-ltb, ltb-true, ltb-false}
-use Rattle.failure.specs.Choice.{if◌then◌else◌}
-use Rattle.failure.specs.Outcome as Outcome
 use Rattle.failure.specs.Outcome.{Outcome, Answer, ◌>>=◌}
 use Rattle.failure.specs.Failure.{BadEkoRecord, EkoTruncated}
 use Rattle.mem.specs.Memory.{Memory}

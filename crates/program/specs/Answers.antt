@@ -1,6 +1,5 @@
 -- Document 01's number and values for each case of this crate's answers.
 use Rattle.std.specs.Prelude.{◌≡◌, Bool, true, false, List, ◌∷◌, ℕ}
-use Rattle.failure.specs.Outcome as Outcome
 use Rattle.failure.specs.Outcome.{Outcome, Answer}
 use Rattle.leb.specs.Reader.{Read}
 use Rattle.state.specs.declared.State.{State}

@@ -1,6 +1,5 @@
 -- The operations of a state program as bytes (document 01, "The state program", the list of operations).
-use Rattle.std.specs.Prelude.{ℕ, ◌+◌, ◌-◌, eqb, ltb}
-use Rattle.failure.specs.Choice.{if◌then◌else◌}
+use Rattle.std.specs.Prelude.{ℕ, ◌+◌, ◌-◌, eqb, ltb, if◌then◌else◌}
 use Rattle.failure.specs.Outcome.{Outcome, Refused, Answer, ◌>>=◌}
 use Rattle.failure.specs.Failure.{BadEkoRecord}
 use Rattle.mem.specs.Memory.{Memory}

@@ -1,6 +1,5 @@
 -- What the public function comes to: 28 for what is lent, then for an architecture other than 1 and 2, before anything else.
-use Rattle.std.specs.Prelude.{ℕ}
-use Rattle.failure.specs.Choice.{if◌then◌else◌}
+use Rattle.std.specs.Prelude.{ℕ, if◌then◌else◌}
 use Rattle.failure.specs.Outcome.{Outcome, Refused, ◌>>=◌}
 use Rattle.failure.specs.Failure.{BadOpening}
 use Rattle.mem.specs.Memory.{Lent}

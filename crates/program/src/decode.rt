@@ -11,7 +11,7 @@ use failure::{BAD_EKO_RECORD, EKO_TRUNCATED, OUTSIDE_MEMORY};
 use leb::{Byte, number_of};
 
 // An operation that sets the rules of the state.
-#[derive(Drop)]
+#[derive(Clone, Copy)]
 pub enum Rule {
     Units(u32),
     Save(u32, u32),
@@ -24,7 +24,7 @@ pub enum Rule {
 }
 
 // An operation.
-#[derive(Drop)]
+#[derive(Clone, Copy)]
 pub enum Op {
     End,
     Advance(u32),
@@ -34,7 +34,7 @@ pub enum Op {
 }
 
 // An operation that a number is still to complete.
-#[derive(Drop)]
+#[derive(Clone, Copy)]
 pub enum Incomplete {
     Save(u32),
     Sp,
@@ -45,7 +45,7 @@ pub enum Incomplete {
 }
 
 // What a first byte says: an operation, one that a number completes, a register and a slot to come, or no operation.
-#[derive(Drop)]
+#[derive(Clone, Copy)]
 pub enum Form {
     Whole(Op),
     WithNumber(Incomplete),
@@ -54,14 +54,14 @@ pub enum Form {
 }
 
 // A number and the position after it, or a refusal.
-#[derive(Drop)]
+#[derive(Clone, Copy)]
 pub enum Number {
     Is(u32, usize),
     Refused(u32),
 }
 
 // An operation and the position after it, or a refusal.
-#[derive(Drop)]
+#[derive(Clone, Copy)]
 pub enum Decoded {
     Is(Op, usize),
     Refused(u32),

@@ -31,14 +31,14 @@ pub mod decode;
 pub const MAX_REMEMBER: usize = 4;
 
 // Whether a call was refused.
-#[derive(Drop)]
+#[derive(Clone, Copy)]
 pub enum Status {
     Done,
     Refused(u32),
 }
 
 // The base, units and count of a state after an operation, whose pairs are in place; beside a refusal nothing is said of them.
-#[derive(Drop)]
+#[derive(Clone, Copy)]
 struct Followed {
     status: Status,
     fp: bool,
@@ -48,7 +48,7 @@ struct Followed {
 
 // What a run gives: the state at the offset, and the after-address, which is not 0 only where END was read. A refused run has the
 // entry state and 0.
-#[derive(Drop)]
+#[derive(Clone, Copy)]
 pub struct Ended {
     pub status: Status,
     pub state: State,
@@ -57,7 +57,7 @@ pub struct Ended {
 
 // What two runs give, one up to an offset and one up to the same or a later one: the status of the first, and the base, units and
 // count of its state, whose pairs are in place; the status and the after-address of the second.
-#[derive(Drop)]
+#[derive(Clone, Copy)]
 pub struct Through {
     pub status: Status,
     pub fp: bool,
@@ -69,7 +69,7 @@ pub struct Through {
 
 // What an operation leaves to the loop: to go on at an offset, or with other rules; to remember the state, or to recall one; to end
 // with an after-address, or to refuse.
-#[derive(Drop)]
+#[derive(Clone, Copy)]
 enum Step {
     At(usize),
     Set,
@@ -81,7 +81,7 @@ enum Step {
 
 // The step after an operation, and the base, units and count of the state, whose pairs are in place; beside a refusal nothing is
 // said of them.
-#[derive(Drop)]
+#[derive(Clone, Copy)]
 struct Acted {
     step: Step,
     fp: bool,

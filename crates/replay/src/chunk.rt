@@ -52,12 +52,10 @@ fn is_part(section: &[u8], k: usize, part: &[u8]) -> bool {
     if section.len() - k < part.len() {
         return false;
     }
-    let mut i: usize = 0;
-    while i < part.len() {
+    for i in 0..part.len() {
         if section[k + i] != part[i] {
             return false;
         }
-        i += 1;
     }
     true
 }

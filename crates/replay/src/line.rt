@@ -20,10 +20,8 @@ fn bytes(words: &[usize; 8192], from: usize, n: usize) -> [u8; 6144]
     ensures { 6144 ≡ length result }
 {
     let mut out = [0u8; 6144];
-    let mut k: usize = 0;
-    while k < n {
+    for k in 0..n {
         out[k] = (word(words, after(from, k)) % 256) as u8;
-        k += 1;
     }
     out
 }
@@ -68,19 +66,17 @@ pub fn file_size(arch: u8) -> usize
 pub fn file(words: &[usize; 8192], from: usize, arch: u8) -> Regs {
     let mut regs = Regs { r: [0usize; 41] };
     let last = file_size(arch) - 1;
-    let mut k: usize = 0;
-    while k < last {
+    for k in 0..last {
         if k < 40 {
             regs.r[k] = word(words, after(from, k));
         }
-        k += 1;
     }
     regs.r[40] = word(words, after(from, last));
     regs
 }
 
 // What a line lends: SBASE SLEN bytes KBASE KLEN bytes, from place 2 on; `rest` is the place after it.
-#[derive(Drop)]
+#[derive(Clone, Copy)]
 pub struct Ranges {
     pub section: [u8; 6144],
     pub section_base: usize,
@@ -132,13 +128,11 @@ pub fn state_at(words: &[usize; 8192], at: usize) -> State {
         slots: [0; 32],
     };
     let n = word(words, after(at, 3));
-    let mut i: usize = 0;
-    while i < 32 {
+    for i in 0..32usize {
         if i < n {
             st.regs[i] = (word(words, after(at, 4 + 2 * i)) % 65536) as u16;
             st.slots[i] = (word(words, after(at, 5 + 2 * i)) % 65536) as u16;
         }
-        i += 1;
     }
     st
 }

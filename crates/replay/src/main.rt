@@ -9,13 +9,20 @@ use cases::{
     check_personality, check_restore, check_run, check_save, check_set, check_set_sp, check_slot,
     check_sp, check_step, check_strip, check_uleb,
 };
-use libc::STDOUT_FILENO;
 use line::word;
+use std::alloc::Global;
+use std::fs::File;
+use std::io;
+use std::io::Read;
+use std::rt::Files;
 
 mod cases;
 mod chunk;
 mod line;
 mod same;
+
+// How many bytes a part of a list has at most.
+const PART: u64 = 65536;
 
 // The value of a lower-case hexadecimal digit; 0 for any other byte.
 fn digit(c: u8) -> usize
@@ -64,7 +71,7 @@ fn check_case(words: &[usize; 8192]) -> bool {
 
 // Where the replay of a list stands: how many cases it has had, how many of them differ and which was the first, counted
 // from 1; the numbers of the present line that are read, and the digits of the next one so far.
-#[derive(Drop)]
+#[derive(Clone, Copy)]
 struct Progress {
     cases: usize,
     different: usize,
@@ -131,26 +138,29 @@ fn feed(p: Progress, words: &mut [usize; 8192], c: u8) -> Progress {
 // All bytes of a part of a list.
 fn feed_all(p: Progress, words: &mut [usize; 8192], part: &[u8]) -> Progress {
     let mut q = p;
-    let mut i: usize = 0;
-    while i < part.len() {
-        q = feed(q, words, part[i]);
-        i += 1;
+    for c in part {
+        q = feed(q, words, *c);
     }
     q
 }
 
 // The next part of a list; the progress says where the list has ended.
-fn feed_next(p: Progress, words: &mut [usize; 8192], fd: i32) -> Progress {
-    let mut part = io::large_buffer();
-    let n = io::read_full(fd, &mut part);
+fn feed_next(
+    p: Progress,
+    words: &mut [usize; 8192],
+    list: &mut impl Read,
+    alloc: Global,
+) -> io::Result<Progress> {
+    let mut part = Vec::new(alloc);
+    let n = list.by_ref().take(PART).read_to_end(&mut part)?;
     if n == 0 {
-        return Progress { ended: true, ..p };
+        return Ok(Progress { ended: true, ..p });
     }
-    feed_all(p, words, &part[..n])
+    Ok(feed_all(p, words, &part))
 }
 
 // Replays the list in an open file of at most 256 parts.
-fn replay_list(fd: i32) -> Progress {
+fn replay_list(list: &mut impl Read, alloc: Global) -> io::Result<Progress> {
     let mut words = [0usize; 8192];
     let mut p = Progress {
         cases: 0,
@@ -160,40 +170,32 @@ fn replay_list(fd: i32) -> Progress {
         v: 0,
         ended: false,
     };
-    let mut parts: usize = 0;
-    while parts < 256 {
-        p = feed_next(p, &mut words, fd);
+    for _ in 0..256usize {
+        p = feed_next(p, &mut words, list, alloc)?;
         if p.ended {
-            return p;
+            return Ok(p);
         }
-        parts += 1;
     }
-    p
+    Ok(p)
 }
 
 // Replays a list by its file's name, and writes a line of what came of it.
-fn replay(name: &[u8]) {
-    let fd = os::open_read(name);
-    if fd < 0 {
-        os::fail(name);
-        return;
-    }
-    let p = replay_list(fd);
-    libc::close(fd);
-    io::write_all(STDOUT_FILENO, name);
-    io::write_all(STDOUT_FILENO, b": ");
-    io::print_decimal(STDOUT_FILENO, p.cases as u64);
-    io::write_all(STDOUT_FILENO, b" cases, ");
-    io::print_decimal(STDOUT_FILENO, p.different as u64);
-    io::write_all(STDOUT_FILENO, b" different, first ");
-    io::print_decimal(STDOUT_FILENO, p.first as u64);
-    io::write_all(STDOUT_FILENO, b"\n");
+fn replay<R: Files + Print + Eprint + AllocGlobal>(rt: &R, name: &str) -> io::Result<()> {
+    let mut list = match File::open(rt, name) {
+        Ok(list) => list,
+        Err(e) => return eprintln!(rt; "{name}: {e}"),
+    };
+    let p = replay_list(&mut list, rt.alloc())?;
+    println!(rt;
+        "{name}: {} cases, {} different, first {}",
+        p.cases, p.different, p.first
+    )
 }
 
-fn main() {
-    replay(b"foundation");
-    replay(b"lookup");
-    replay(b"program");
-    replay(b"frame");
-    replay(b"rows");
+fn main(rt: HostRuntime) -> io::Result<()> {
+    replay(&rt, "foundation")?;
+    replay(&rt, "lookup")?;
+    replay(&rt, "program")?;
+    replay(&rt, "frame")?;
+    replay(&rt, "rows")
 }

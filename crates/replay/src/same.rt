@@ -8,12 +8,10 @@ use state::State;
 
 // Two register files hold the same.
 pub fn same_file(a: Regs, b: Regs) -> bool {
-    let mut k: usize = 0;
-    while k < 41 {
+    for k in 0..41usize {
         if a.r[k] != b.r[k] {
             return false;
         }
-        k += 1;
     }
     true
 }
@@ -89,15 +87,13 @@ pub fn same_state(a: State, b: State) -> bool {
     if a.count != b.count {
         return false;
     }
-    let mut i: usize = 0;
-    while i < 32 {
+    for i in 0..32usize {
         if a.regs[i] != b.regs[i] {
             return false;
         }
         if a.slots[i] != b.slots[i] {
             return false;
         }
-        i += 1;
     }
     true
 }

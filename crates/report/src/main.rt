@@ -2,16 +2,17 @@
 // pads that will run. A refusal is printed by its number and name.
 #![tactic(auto)]
 
-ghost use Rattle.std.specs.Prelude.{◌≡◌, ◌≤◌, length};
+ghost use Rattle.std.specs.Prelude.{◌≡◌, ◌≤◌, length, IfOk};
 
 use arch::{AARCH64, Regs, Value, X86_64};
-use libc::{STDIN_FILENO, STDOUT_FILENO};
 use lookup::{Lookup, Record, chunk_of, lookup_arch};
 use mem::load::{Word, load_u32, load_u64};
 use mem::wrapping;
 use model::Unwinding;
 use personality::row_of;
 use rows::{ACTION_CATCH, ACTION_CLEANUP, Row};
+use std::io;
+use std::io::Read;
 use unwind::cleanup::resume;
 use unwind::search::raise;
 use unwind::walk::next_frame;
@@ -59,7 +60,7 @@ const PRESERVED_AARCH64: [u16; 20] = [
 const PRESERVED_X86_64: [u16; 6] = [3, 6, 12, 13, 14, 15];
 
 // What a capture says beside the bytes of its section and of its stack.
-#[derive(Drop)]
+#[derive(Clone, Copy)]
 struct Capture {
     arch: u8,
     section_base: usize,
@@ -71,7 +72,7 @@ struct Capture {
 }
 
 // What a turn of the walk comes to: a frame, one whose row is refused, the end, or a refusal of the frame's step.
-#[derive(Drop)]
+#[derive(Clone, Copy)]
 enum Turn {
     On,
     RowRefused,
@@ -80,95 +81,47 @@ enum Turn {
 }
 
 // The first frame that is refused, for its step or its row, if there is one. A throw that is refused is refused there.
-#[derive(Drop)]
+#[derive(Clone, Copy)]
 struct Spot {
     is: bool,
     number: usize,
     pc: usize,
 }
 
-// Printing.
-
-fn put(text: &[u8]) {
-    io::write_all(STDOUT_FILENO, text);
-}
-
-// A number in decimal.
-fn decimal(n: usize) {
-    io::print_decimal(STDOUT_FILENO, n as u64);
-}
-
-// An address or a register, in 16 hexadecimal digits.
-fn hex(n: usize) {
-    io::print_hex(STDOUT_FILENO, n as u64, 16);
-}
-
-// A number of at most five digits, set to the right.
-fn column(n: usize) {
-    if n < 10 {
-        put(b"    ");
-    } else if n < 100 {
-        put(b"   ");
-    } else if n < 1000 {
-        put(b"  ");
-    } else if n < 10000 {
-        put(b" ");
-    }
-    decimal(n);
-}
-
-// A number of at most seven digits, as an offset in a capture has, set to the right.
-fn wide_column(n: usize) {
-    if n < 100000 {
-        put(b"  ");
-    } else if n < 1000000 {
-        put(b" ");
-    }
-    column(n);
-}
+// Printing. A number in decimal is set to the right in its column; an address or a register has 16 hexadecimal digits.
 
 // The name of a refusal.
-fn name(n: u32) {
+fn name(n: u32) -> &'static str {
     match n {
-        10 => put(b"RememberStackOverflow"),
-        11 => put(b"UnknownRegister"),
-        12 => put(b"BadCfaRule"),
-        17 => put(b"BadEkoHeader"),
-        18 => put(b"BadEkoRecord"),
-        19 => put(b"EkoUnsorted"),
-        20 => put(b"StackNotAdvancing"),
-        22 => put(b"HandlerFrameMissed"),
-        23 => put(b"Misaligned"),
-        24 => put(b"EkoAmbiguousCallSite"),
-        25 => put(b"EkoAsyncFrame"),
-        27 => put(b"OutsideMemory"),
-        28 => put(b"BadOpening"),
-        29 => put(b"TooManyFrames"),
-        30 => put(b"EkoTruncated"),
-        31 => put(b"BadUleb"),
-        32 => put(b"TooManySaved"),
-        _ => put(b"unknown"),
+        10 => "RememberStackOverflow",
+        11 => "UnknownRegister",
+        12 => "BadCfaRule",
+        17 => "BadEkoHeader",
+        18 => "BadEkoRecord",
+        19 => "EkoUnsorted",
+        20 => "StackNotAdvancing",
+        22 => "HandlerFrameMissed",
+        23 => "Misaligned",
+        24 => "EkoAmbiguousCallSite",
+        25 => "EkoAsyncFrame",
+        27 => "OutsideMemory",
+        28 => "BadOpening",
+        29 => "TooManyFrames",
+        30 => "EkoTruncated",
+        31 => "BadUleb",
+        32 => "TooManySaved",
+        _ => "unknown",
     }
 }
 
 // A refusal, by its number and name.
-fn refused(n: u32) {
-    put(b"refused, ");
-    decimal(n as usize);
-    put(b" ");
-    name(n);
+fn refused(rt: &impl Print, n: u32) -> io::Result<()> {
+    print!(rt; "refused, {n} {}", name(n))
 }
 
 // A refusal, with the frame that it is met at.
-fn refused_at(number: usize, pc: usize, n: u32) {
-    put(b"refused at frame ");
-    decimal(number);
-    put(b", pc ");
-    hex(pc);
-    put(b", ");
-    decimal(n as usize);
-    put(b" ");
-    name(n);
+fn refused_at(rt: &impl Print, number: usize, pc: usize, n: u32) -> io::Result<()> {
+    print!(rt; "refused at frame {number}, pc {pc:016x}, {n} {}", name(n))
 }
 
 // Reading.
@@ -200,10 +153,8 @@ fn architecture(n: usize) -> u8 {
 // The register file of a capture, column by column.
 fn registers(input: &[u8]) -> Regs {
     let mut regs = Regs { r: [0usize; 41] };
-    let mut k: usize = 0;
-    while k < 41 {
+    for k in 0..41usize {
         regs.r[k] = word(input, AT_REGS + 8 * k);
-        k += 1;
     }
     regs
 }
@@ -231,28 +182,28 @@ fn value(v: Value) -> usize {
 }
 
 // What a row asks for, with the address of its pad.
-fn action_cell(start: usize, pad: usize, action: usize) {
+fn action_cell(rt: &impl Print, start: usize, pad: usize, action: usize) -> io::Result<()> {
+    let at = wrapping::add(start, pad);
     if action == ACTION_CLEANUP {
-        put(b"cleanup at ");
+        print!(rt; "cleanup at {at:016x}")
     } else if action == ACTION_CATCH {
-        put(b"catch at ");
+        print!(rt; "catch at {at:016x}")
     } else {
-        put(b"terminate");
-        return;
+        print!(rt; "terminate")
     }
-    hex(wrapping::add(start, pad));
 }
 
-fn row_cell(start: usize, row: Row) {
+fn row_cell(rt: &impl Print, start: usize, row: Row) -> io::Result<()> {
     match row {
-        Row::None => put(b"none"),
-        Row::Is(pad, action) => action_cell(start, pad, action),
-        Row::Refused(n) => refused(n),
+        Row::None => print!(rt; "none"),
+        Row::Is(pad, action) => action_cell(rt, start, pad, action),
+        Row::Refused(n) => refused(rt, n),
     }
 }
 
 // A line of the frame table, with the record's chunk: its offset in the section, and its bytes.
 fn frame_line(
+    rt: &impl Print,
     number: usize,
     chunk: usize,
     bytes: usize,
@@ -260,21 +211,10 @@ fn frame_line(
     pc: usize,
     sp: usize,
     row: Row,
-) {
-    column(number);
-    put(b"  ");
-    wide_column(chunk);
-    put(b" ");
-    wide_column(bytes);
-    put(b"  ");
-    hex(start);
-    put(b"  ");
-    hex(pc);
-    put(b"  ");
-    hex(sp);
-    put(b"  ");
-    row_cell(start, row);
-    put(b"\n");
+) -> io::Result<()> {
+    print!(rt; "{number:>5}  {chunk:>7} {bytes:>7}  {start:016x}  {pc:016x}  {sp:016x}  ")?;
+    row_cell(rt, start, row)?;
+    println!(rt)
 }
 
 // Looked up is pc - 1, or pc for an interrupted frame.
@@ -295,6 +235,7 @@ fn chunk_offset(found: Lookup) -> usize {
 
 // A frame with its record; whether its row is refused.
 fn past<'a>(
+    rt: &impl Print,
     section: &'a [u8],
     stack: &'a [u8],
     c: Capture,
@@ -302,7 +243,7 @@ fn past<'a>(
     interrupted: bool,
     regs: Regs,
     record: Record,
-) -> Turn {
+) -> io::Result<Turn> {
     let row = row_of(
         section,
         c.section_base,
@@ -313,9 +254,15 @@ fn past<'a>(
         record,
         regs.pc(),
     );
+    let turn = match &row {
+        Row::None => Turn::On,
+        Row::Is(_, _) => Turn::On,
+        Row::Refused(_) => Turn::RowRefused,
+    };
     let at = looked_up(interrupted, regs.pc());
     let chunk = chunk_of(section, c.section_base, stack, c.stack_base, at, c.arch);
     frame_line(
+        rt,
         number,
         chunk_offset(lookup_arch(section, c.section_base, stack, c.stack_base, at, c.arch)),
         chunk.len(),
@@ -323,16 +270,13 @@ fn past<'a>(
         regs.pc(),
         value(regs.sp(c.arch)),
         row,
-    );
-    match row {
-        Row::None => Turn::On,
-        Row::Is(_, _) => Turn::On,
-        Row::Refused(_) => Turn::RowRefused,
-    }
+    )?;
+    Ok(turn)
 }
 
 // What the step of a frame comes to.
 fn walked<'a>(
+    rt: &impl Print,
     section: &'a [u8],
     stack: &'a [u8],
     c: Capture,
@@ -340,18 +284,18 @@ fn walked<'a>(
     interrupted: bool,
     regs: Regs,
     answer: Walked,
-) -> Turn {
+) -> io::Result<Turn> {
     match answer {
-        Walked::Past(record) => past(section, stack, c, number, interrupted, regs, record),
+        Walked::Past(record) => past(rt, section, stack, c, number, interrupted, regs, record),
         Walked::End => {
-            put(b"walk: ended\n");
-            Turn::End
+            println!(rt; "walk: ended")?;
+            Ok(Turn::End)
         }
         Walked::Refused(n) => {
-            put(b"walk: ");
-            refused_at(number, regs.pc(), n);
-            put(b"\n");
-            Turn::Refused
+            print!(rt; "walk: ")?;
+            refused_at(rt, number, regs.pc(), n)?;
+            println!(rt)?;
+            Ok(Turn::Refused)
         }
     }
 }
@@ -385,8 +329,10 @@ fn met(spot: Spot, turn: Turn, number: usize, pc: usize) -> Spot {
 }
 
 // The frame table, and how the walk ends.
-fn frames<'a>(section: &'a [u8], stack: &'a [u8], c: Capture) -> Spot {
-    put(b"\nframe    chunk   bytes  record start      pc                sp                row\n");
+fn frames<'a>(rt: &impl Print, section: &'a [u8], stack: &'a [u8], c: Capture) -> io::Result<Spot> {
+    println!(rt;
+        "\nframe    chunk   bytes  record start      pc                sp                row"
+    )?;
     let regs = c.regs;
     let mut number: usize = 0;
     let mut first = c.interrupted;
@@ -396,8 +342,7 @@ fn frames<'a>(section: &'a [u8], stack: &'a [u8], c: Capture) -> Spot {
         number: 0,
         pc: 0,
     };
-    let mut turns: usize = 0;
-    while turns < TURNS {
+    for _ in 0..TURNS {
         let next = next_frame(
             section,
             c.section_base,
@@ -409,17 +354,16 @@ fn frames<'a>(section: &'a [u8], stack: &'a [u8], c: Capture) -> Spot {
             file,
         );
         let answer = next.answer;
-        let turn = walked(section, stack, c, number, first, file, answer);
+        let turn = walked(rt, section, stack, c, number, first, file, answer)?;
         spot = met(spot, turn, number, file.pc());
         if !goes_on(turn) {
-            return spot;
+            return Ok(spot);
         }
         number = next.number;
         first = next.interrupted;
         file = next.regs;
-        turns += 1;
     }
-    spot
+    Ok(spot)
 }
 
 // The landing pads.
@@ -449,81 +393,82 @@ fn preserved(arch: u8, i: usize) -> u16 {
 }
 
 // The i-th preserved register and its value, four to a line.
-fn register_cell(arch: u8, regs: Regs, i: usize) {
+fn register_cell(rt: &impl Print, arch: u8, regs: Regs, i: usize) -> io::Result<()> {
     if i % 4 == 0 {
-        put(b"\n      ");
+        print!(rt; "\n      ")?;
     }
     let reg = preserved(arch, i);
-    column(reg as usize);
-    put(b" ");
-    hex(value(regs.get(arch, reg)));
+    print!(rt; "{reg:>5} {:016x}", value(regs.get(arch, reg)))
 }
 
-fn register_cells(arch: u8, regs: Regs) {
+fn register_cells(rt: &impl Print, arch: u8, regs: Regs) -> io::Result<()> {
     let n = preserved_count(arch);
-    let mut i: usize = 0;
-    while i < n {
-        register_cell(arch, regs, i);
-        i += 1;
+    for i in 0..n {
+        register_cell(rt, arch, regs, i)?;
     }
-    put(b"\n");
+    println!(rt)
 }
 
 // A landing: the line of its pad, and the preserved registers there.
-fn pad_lines(arch: u8, turn: usize, number: usize, regs: Regs) {
-    column(turn);
-    put(b"  ");
-    column(number);
-    put(b"  ");
-    hex(regs.pc());
-    put(b"  ");
-    hex(value(regs.sp(arch)));
-    register_cells(arch, regs);
+fn pad_lines(rt: &impl Print, arch: u8, turn: usize, number: usize, regs: Regs) -> io::Result<()> {
+    let pc = regs.pc();
+    let sp = value(regs.sp(arch));
+    print!(rt; "{turn:>5}  {number:>5}  {pc:016x}  {sp:016x}")?;
+    register_cells(rt, arch, regs)
 }
 
 // What a resume call comes to; whether another follows.
-fn landed(arch: u8, turn: usize, resumed: Resumed) -> bool {
-    let answer = resumed.answer;
-    let regs = resumed.regs;
-    match answer {
+fn landed(rt: &impl Print, arch: u8, turn: usize, resumed: &Resumed) -> io::Result<bool> {
+    match &resumed.answer {
         ResumeAnswer::Install(number) => {
-            pad_lines(arch, turn, number, regs);
-            true
+            pad_lines(rt, arch, turn, *number, resumed.regs)?;
+            Ok(true)
         }
         ResumeAnswer::Finished => {
-            put(b"landings: finished\n");
-            false
+            println!(rt; "landings: finished")?;
+            Ok(false)
         }
         ResumeAnswer::Fatal => {
-            put(b"landings: stopped by a terminate row\n");
-            false
+            println!(rt; "landings: stopped by a terminate row")?;
+            Ok(false)
         }
         ResumeAnswer::Refused(n) => {
-            put(b"landings: ");
-            refused(n);
-            put(b"\n");
-            false
+            print!(rt; "landings: ")?;
+            refused(rt, *n)?;
+            println!(rt)?;
+            Ok(false)
         }
     }
 }
 
 // The table of the landing pads in the order in which they run, and how it ends.
-fn pads<'a>(section: &'a [u8], stack: &'a [u8], c: Capture, unwinding: Unwinding) {
-    put(b"\n  pad  frame  pc                sp, and the preserved registers\n");
+fn pads<'a>(
+    rt: &impl Print,
+    section: &'a [u8],
+    stack: &'a [u8],
+    c: Capture,
+    unwinding: Unwinding,
+) -> io::Result<()> {
+    println!(rt; "\n  pad  frame  pc                sp, and the preserved registers")?;
     let mut u = unwinding;
-    let mut turns: usize = 0;
-    while turns < TURNS {
+    for turn in 0..TURNS {
         let resumed = resume(section, c.section_base, stack, c.stack_base, c.arch, u);
-        u = resumed.unwinding;
-        if !landed(c.arch, turns, resumed) {
-            return;
+        if !landed(rt, c.arch, turn, &resumed)? {
+            return Ok(());
         }
-        turns += 1;
+        u = resumed.unwinding;
     }
+    Ok(())
 }
 
 // What the throw comes to, and the landing pads if a frame catches.
-fn throw<'a>(section: &'a [u8], stack: &'a [u8], c: Capture, spot: Spot) {
+fn throw<'a>(
+    rt: &impl Print,
+    section: &'a [u8],
+    stack: &'a [u8],
+    c: Capture,
+    spot: Spot,
+) -> io::Result<()> {
     let raised = raise(
         section,
         c.section_base,
@@ -535,133 +480,121 @@ fn throw<'a>(section: &'a [u8], stack: &'a [u8], c: Capture, spot: Spot) {
         c.interrupted,
         c.exception,
     );
-    put(b"throw: ");
+    print!(rt; "throw: ")?;
     let answer = raised.answer;
     match answer {
         RaiseAnswer::Chosen(number, _) => {
-            put(b"frame ");
-            decimal(number);
-            put(b" catches\n");
-            pads(section, stack, c, raised.unwinding);
+            println!(rt; "frame {number} catches")?;
+            pads(rt, section, stack, c, raised.unwinding)
         }
-        RaiseAnswer::Stopped => put(b"stopped by a terminate row; no landing pad runs\n"),
-        RaiseAnswer::Ended => put(b"no frame catches; no landing pad runs\n"),
+        RaiseAnswer::Stopped => println!(rt; "stopped by a terminate row; no landing pad runs"),
+        RaiseAnswer::Ended => println!(rt; "no frame catches; no landing pad runs"),
         RaiseAnswer::Refused(n) => {
             if spot.is {
-                refused_at(spot.number, spot.pc, n);
+                refused_at(rt, spot.number, spot.pc, n)?;
             } else {
-                refused(n);
+                refused(rt, n)?;
             }
-            put(b"; no landing pad runs\n");
+            println!(rt; "; no landing pad runs")
         }
     }
 }
 
 // The input.
 
-fn arch_name(arch: u8) {
+fn arch_name(arch: u8) -> &'static str {
     if arch == AARCH64 {
-        put(b"aarch64");
+        "aarch64"
     } else if arch == X86_64 {
-        put(b"x86-64");
+        "x86-64"
     } else {
-        put(b"unknown architecture");
+        "unknown architecture"
     }
 }
 
-fn range_line(what: &[u8], base: usize, length: usize) {
-    put(what);
-    hex(base);
-    put(b", ");
-    decimal(length);
-    put(b" bytes\n");
+fn range_line(rt: &impl Print, what: &str, base: usize, length: usize) -> io::Result<()> {
+    println!(rt; "{what}{base:016x}, {length} bytes")
 }
 
 // What was captured, in three lines.
-fn head_lines(c: Capture, section_length: usize, stack_length: usize) {
-    arch_name(c.arch);
-    if c.interrupted {
-        put(b", interrupted at ");
+fn head_lines(
+    rt: &impl Print,
+    c: Capture,
+    section_length: usize,
+    stack_length: usize,
+) -> io::Result<()> {
+    let how = if c.interrupted {
+        "interrupted"
     } else {
-        put(b", thrown at ");
-    }
-    hex(c.pc);
-    put(b", exception ");
-    hex(c.exception);
-    put(b"\n");
-    range_line(b"section at ", c.section_base, section_length);
-    range_line(b"stack at   ", c.stack_base, stack_length);
+        "thrown"
+    };
+    println!(rt;
+        "{}, {how} at {:016x}, exception {:016x}",
+        arch_name(c.arch),
+        c.pc,
+        c.exception
+    )?;
+    range_line(rt, "section at ", c.section_base, section_length)?;
+    range_line(rt, "stack at   ", c.stack_base, stack_length)
 }
 
-fn report<'a>(section: &'a [u8], stack: &'a [u8], c: Capture) {
-    head_lines(c, section.len(), stack.len());
-    let spot = frames(section, stack, c);
-    throw(section, stack, c, spot);
+fn report<'a>(rt: &impl Print, section: &'a [u8], stack: &'a [u8], c: Capture) -> io::Result<()> {
+    head_lines(rt, c, section.len(), stack.len())?;
+    let spot = frames(rt, section, stack, c)?;
+    throw(rt, section, stack, c, spot)
 }
 
 // An input that is no capture: why, and a number that says more.
-fn broken(why: &[u8], n: usize, after: &[u8]) {
-    put(b"broken capture: ");
-    put(why);
-    decimal(n);
-    put(after);
+fn broken(rt: &impl Print, why: &str, n: usize, after: &str) -> io::Result<()> {
+    println!(rt; "broken capture: {why}{n}{after}")
 }
 
 // The parts of a capture, whose lengths must make up its own.
-fn parts(input: &[u8]) {
+fn parts(rt: &impl Print, input: &[u8]) -> io::Result<()> {
     let n = input.len();
     if n < HEAD {
-        broken(b"cut after ", n, b" bytes, in its head of 400\n");
-        return;
+        return broken(rt, "cut after ", n, " bytes, in its head of 400");
     }
     let left = n - HEAD;
     let section_length = word(input, AT_SECTION_LENGTH);
     if left < section_length {
-        broken(b"cut after ", n, b" bytes, in its section\n");
-        return;
+        return broken(rt, "cut after ", n, " bytes, in its section");
     }
     let stack_length = word(input, AT_STACK_LENGTH);
     if left - section_length < stack_length {
-        broken(b"cut after ", n, b" bytes, in its stack\n");
-        return;
+        return broken(rt, "cut after ", n, " bytes, in its stack");
     }
     let end = HEAD + section_length;
     let last = end + stack_length;
     if last < n {
-        broken(b"", n - last, b" bytes too many after its stack\n");
-        return;
+        return broken(rt, "", n - last, " bytes too many after its stack");
     }
-    report(&input[HEAD..end], &input[end..last], captured(input));
+    report(rt, &input[HEAD..end], &input[end..last], captured(input))
 }
 
 // Says what is wrong with the input, or reports.
-fn read(input: &[u8]) {
+fn read(rt: &impl Print, input: &[u8]) -> io::Result<()> {
     let n = input.len();
     if n == 0 {
-        put(b"broken capture: empty input\n");
-        return;
+        return println!(rt; "broken capture: empty input");
     }
     if MOST < n {
-        broken(b"more than ", MOST, b" bytes\n");
-        return;
+        return broken(rt, "more than ", MOST, " bytes");
     }
     if word(input, 0) != MAGIC {
-        put(b"no capture: the input does not begin with MORTHCAP\n");
-        return;
+        return println!(rt; "no capture: the input does not begin with MORTHCAP");
     }
     let version = half(input, AT_VERSION);
     if 12 <= n {
         if version != VERSION {
-            broken(b"version ", version, b", and only 1 is known\n");
-            return;
+            return broken(rt, "version ", version, ", and only 1 is known");
         }
     }
     let interrupted = word(input, AT_INTERRUPTED);
     if 1 < interrupted {
-        broken(b"interrupted is ", interrupted, b", and neither 0 nor 1\n");
-        return;
+        return broken(rt, "interrupted is ", interrupted, ", and neither 0 nor 1");
     }
-    parts(input);
+    parts(rt, input)
 }
 
 // Zeros for a capture and one byte more.
@@ -671,8 +604,23 @@ fn room() -> [u8; 1048576]
     [0; 1048576]
 }
 
-fn main() {
+// Fills the room from the start with what a reader gives, until either ends; how many bytes that are.
+fn read_full(reader: &mut impl Read, room: &mut [u8]) -> io::Result<usize>
+    ensures { IfOk result (λ n. n ≤ length room.new) }
+{
+    let mut done: usize = 0;
+    while done < room.len() {
+        let n = reader.read(&mut room[done..])?;
+        if n == 0 {
+            return Ok(done);
+        }
+        done += n;
+    }
+    Ok(done)
+}
+
+fn main(rt: HostRuntime) -> io::Result<()> {
     let mut input = room();
-    let n = io::read_full(STDIN_FILENO, &mut input);
-    read(&input[..n]);
+    let n = read_full(&mut rt.reader(), &mut input)?;
+    read(&rt, &input[..n])
 }

@@ -11,7 +11,7 @@ use lib.ListN.{length, get_or}
 use borrow.Author.Tests.{eqb-true, eqb-false}
 use Rattle.failure.specs.Outcome.{Outcome, Answer}
 use Rattle.mem.specs.Memory.{Memory}
-use Rattle.rows.specs.Row.{Found, None, Pad, valid, checked}
+use Rattle.rows.specs.Row.{Found, None, Pad, checked}
 use Rattle.rows.specs.Handler.{Entry, row, handler}
 use Rattle.rows.specs.Prefix.{row_at}
 use Rattle.rows.specs.NotRefused.{not_refused, none_or_well_formed}

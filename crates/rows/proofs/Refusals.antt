@@ -1,10 +1,10 @@
 -- A version 2 table is refused with 18, 24, 27, 30 or 31 and no other number. Assumes nothing.
+use Rattle.std.specs.Prelude.{if◌then◌else◌}
 use mathlib.Core.Path.{◌≡◌, refl, sym, subst}
 use mathlib.Core.Bool.{Bool, true, false}
 use mathlib.Core.Logic.{◌⊎◌, inl, inr}
 use Prim.Native.Nat.{ℕ, zero, suc, ◌+◌, ◌/◌, ◌%◌}
 use lib.Dec.{eqb, ltb}
-use Rattle.failure.specs.Choice.{if◌then◌else◌}
 use Rattle.failure.specs.Outcome.{Outcome, Refused, Answer, ◌>>=◌}
 use Rattle.failure.specs.Failure.{BadEkoRecord, EkoAmbiguousCallSite, OutsideMemory, EkoTruncated, BadUleb}
 use Rattle.mem.specs.Memory.{Memory}

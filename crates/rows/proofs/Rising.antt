@@ -8,7 +8,7 @@ use native.Mathlib.Nat.{lt_trans}
 use native.Mathlib.Omega.{arith}
 use lib.Dec.{eqb, ltb}
 use borrow.Author.Tests.{eq-eqb, ne_eqb, lt-ltb, le-ltb, le-leb, lt-leb, eqb-true, eqb-false, ltb-true, ltb-false}
-use Rattle.failure.specs.Outcome.{Answer, ◌>>=◌}
+use Rattle.failure.specs.Outcome.{Answer}
 use Rattle.mem.specs.Memory.{Memory}
 use Rattle.mem.specs.Word.{load}
 use Rattle.mem.proofs.Tests.{lt_or_le}

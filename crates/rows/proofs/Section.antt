@@ -1,4 +1,5 @@
 -- A row table that lies in the section has the same rows whatever else is lent. Assumes nothing.
+use Rattle.std.specs.Prelude.{if◌then◌else◌}
 use mathlib.Core.Path.{◌≡◌, refl, ap}
 use mathlib.Core.Bool.{Bool, true, false}
 use mathlib.Core.List.{◌∷◌}
@@ -7,7 +8,6 @@ use native.Mathlib.Nat.{mod-eq_of_lt}
 use native.Mathlib.Omega.{arith}
 use lib.Dec.{leb, ltb, eqb}
 use borrow.Author.Tests.{leb-false, ltb-true}
-use Rattle.failure.specs.Choice.{if◌then◌else◌}
 use Rattle.failure.specs.Outcome.{Outcome, Refused, Answer, ◌>>=◌}
 use Rattle.mem.specs.Memory.{Region, Memory, size}
 use Rattle.mem.specs.Place.{bytes_at}

@@ -1,6 +1,5 @@
 -- Document 01's number and values for each case of the answers between this crate's functions.
-use Rattle.std.specs.Prelude.{Bool, true, false, ◌≡◌, ℕ, ◌/◌, ◌%◌, ◌^◌, ◌≤◌, eqb}
-use Rattle.failure.specs.Choice.{if◌then◌else◌}
+use Rattle.std.specs.Prelude.{Bool, true, false, ◌≡◌, ℕ, ◌/◌, ◌%◌, ◌^◌, ◌≤◌, eqb, if◌then◌else◌}
 use Rattle.failure.specs.Outcome.{Outcome, Refused, Answer}
 use Rattle.failure.specs.Failure.{OutsideMemory}
 use Rattle.mem.specs.Memory.{Memory}

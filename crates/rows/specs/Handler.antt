@@ -1,6 +1,5 @@
 -- Version 1 tables: u32 count, then rows of 12 bytes (return offset, pad, action), found by halving.
-use Rattle.std.specs.Prelude.{Bool, false, ℕ, zero, suc, ◌+◌, ◌-◌, ◌*◌, ◌/◌, leb, ltb, eqb}
-use Rattle.failure.specs.Choice.{if◌then◌else◌}
+use Rattle.std.specs.Prelude.{Bool, false, ℕ, zero, suc, ◌+◌, ◌-◌, ◌*◌, ◌/◌, leb, ltb, eqb, if◌then◌else◌}
 use Rattle.failure.specs.Outcome.{Outcome, Refused, Answer, ◌>>=◌}
 use Rattle.failure.specs.Failure.{EkoAmbiguousCallSite, BadOpening}
 use Rattle.mem.specs.Memory.{Memory, Lent}

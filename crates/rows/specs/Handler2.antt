@@ -1,7 +1,6 @@
 -- Version 2 tables: uleb rows, then for each a uleb delta (from the return offset before it, the first from 0) and a uleb pad times 4
 -- + action.
-use Rattle.std.specs.Prelude.{ℕ, zero, suc, ◌+◌, ◌/◌, ◌%◌, ltb, eqb}
-use Rattle.failure.specs.Choice.{if◌then◌else◌}
+use Rattle.std.specs.Prelude.{ℕ, zero, suc, ◌+◌, ◌/◌, ◌%◌, ltb, eqb, if◌then◌else◌}
 use Rattle.failure.specs.Outcome.{Outcome, Refused, Answer, ◌>>=◌}
 use Rattle.failure.specs.Failure.{EkoAmbiguousCallSite, BadOpening}
 use Rattle.mem.specs.Memory.{Memory, Lent}

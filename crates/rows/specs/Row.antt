@@ -1,6 +1,5 @@
 -- A row: what is to be done when an exception leaves the call with this return offset.
-use Rattle.std.specs.Prelude.{Bool, false, not, ℕ, eqb}
-use Rattle.failure.specs.Choice.{if◌then◌else◌}
+use Rattle.std.specs.Prelude.{Bool, false, not, ℕ, eqb, if◌then◌else◌}
 use Rattle.failure.specs.Outcome.{Outcome, Refused, Answer}
 use Rattle.failure.specs.Failure.{BadEkoRecord}
 use Rattle.rows.specs.declared.Row.{Row}

@@ -14,14 +14,14 @@ use mem::load::Word;
 use mem::{load, opening, wrapping};
 
 // A row as it stands in the table (return offset, pad, action), or no memory there.
-#[derive(Drop)]
+#[derive(Clone, Copy)]
 enum Entry {
     Is(usize, usize, usize),
     Outside,
 }
 
 // Whether a neighbour breaks the order of rows, or no memory there.
-#[derive(Drop)]
+#[derive(Clone, Copy)]
 enum Order {
     Keeps,
     Breaks,

@@ -13,7 +13,7 @@ use leb::Number;
 use mem::opening;
 
 // What a row comes to: the answer, or the position of the next row and the return offset so far.
-#[derive(Drop)]
+#[derive(Clone, Copy)]
 enum Step {
     Ends(Row),
     On(usize, usize),
@@ -236,7 +236,7 @@ const NO_ROW: usize = 0x1_0000_0000;
 const UNSETTLED: usize = 0x2_0000_0000;
 
 // A number of at most three bytes and the position after it, or any other case.
-#[derive(Drop)]
+#[derive(Clone, Copy)]
 enum Short {
     Is(usize, usize),
     Long,

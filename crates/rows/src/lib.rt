@@ -16,7 +16,7 @@ pub const ACTION_CATCH: usize = 1;
 pub const ACTION_TERMINATE: usize = 2;
 
 // The row of a return offset: its pad and action; none; or a refusal.
-#[derive(Drop)]
+#[derive(Clone, Copy)]
 pub enum Row {
     Is(usize, usize),
     None,

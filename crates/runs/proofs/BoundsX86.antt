@@ -1,4 +1,4 @@
--- The scenarios at the bounds of the rules on x86_64 hold. Assumes nothing.
+-- The scenarios at the bounds of the rules on x86-64 hold. Assumes nothing.
 use mathlib.Core.Path.{refl}
 use Rattle.model.specs.Machine.{Fresh}
 use Rattle.runs.specs.Scenario.{Holds}

@@ -1,6 +1,6 @@
 -- Demand 3, in each of its forms, speaks of every closed run: a theorem that asked for more than the runs have would not. Assumes nothing.
 use mathlib.Core.List.{List, [], ◌∷◌}
-use Rattle.runs.specs.Scenario.{Scenario, Holds}
+use Rattle.runs.specs.Scenario.{Scenario}
 use Rattle.runs.specs.Promises.{Promises, All}
 use Rattle.runs.specs.Aarch64 as Aarch64
 use Rattle.runs.specs.X86 as X86
@@ -57,7 +57,7 @@ every_aarch64 =
       ),
     )
 
--- of x86_64
+-- of x86-64
 abbrev pub of_x86 : List Scenario
 of_x86 =
     X86.caught ∷ X86.terminated ∷ X86.uncaught ∷ X86.in_leaf ∷ X86.over_unlinked ∷

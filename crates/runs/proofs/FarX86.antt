@@ -1,4 +1,4 @@
--- The scenarios far out on x86_64 hold, and their events are within the rules or against them, as their labels say. Assumes nothing.
+-- The scenarios far out on x86-64 hold, and their events are within the rules or against them, as their labels say. Assumes nothing.
 use mathlib.Core.Bool.{true}
 use mathlib.Core.Path.{◌≡◌, refl}
 use Rattle.model.specs.Machine.{Fresh}

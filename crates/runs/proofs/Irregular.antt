@@ -12,7 +12,7 @@ use Rattle.model.specs.Cleanup.{Cleaned}
 use Rattle.model.specs.Unwinding.{raised}
 use Rattle.model.specs.Machine.{Machine, arch_of, lent_by}
 use Rattle.model.specs.Expected.{Compared}
-use Rattle.model.specs.Demand.{answer_of, call_of, Regular, current_by, current, IsRefused, Admissible, raised_by, unwinding_of}
+use Rattle.model.specs.Demand.{answer_of, call_of, Regular, current_by, current, IsRefused, Admissible, unwinding_of}
 use Rattle.model.specs.Call.{compared_as}
 use Rattle.runs.specs.Scenario.{Scenario, reached, handed_back, Holds}
 use Rattle.runs.specs.Irregular.{Asked, regular, made, call_asked, calls_asked, outcomes_of, IsRefusal, MadeRefused, HoldsAmong}

@@ -1,4 +1,4 @@
--- The events and throws at the bounds of the rules on x86_64 are within the rules or against them, as is said of each. Assumes nothing.
+-- The events and throws at the bounds of the rules on x86-64 are within the rules or against them, as is said of each. Assumes nothing.
 use mathlib.Core.Bool.{true, false}
 use mathlib.Core.List.{[], ◌∷◌, ◌++◌, map}
 use mathlib.Core.Path.{◌≡◌, refl}

@@ -15,7 +15,7 @@ pub x86_tables1 : good1 2 ≡ true ∷ false ∷ true ∷ false ∷ false ∷ tr
 unfolding computing
 x86_tables1 = refl
 
--- version 2: an advance counts 4 bytes on aarch64, and one on x86_64
+-- version 2: an advance counts 4 bytes on aarch64, and one on x86-64
 pub aarch64_tables2 : good2 1 3 ≡ true ∷ false ∷ true ∷ false ∷ []
 unfolding computing
 aarch64_tables2 = refl

@@ -3,7 +3,7 @@ use Rattle.std.specs.Prelude.{false, List, [], ◌∷◌, ◌≡◌, ℕ, set}
 use Rattle.failure.specs.Outcome.{Outcome, Refused, Answer}
 use Rattle.arch.specs.Arch.{Arch}
 use Rattle.model.specs.declared.Unwinding.{Unwinding}
-use Rattle.model.specs.FrameStep.{Frame, section_of}
+use Rattle.model.specs.FrameStep.{section_of}
 use Rattle.model.specs.Unwinding.{frame_of, choosing}
 use Rattle.model.specs.Machine.{Machine, arch_of}
 use Rattle.model.specs.Expected.{LandingPad, Compared}

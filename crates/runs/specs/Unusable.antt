@@ -58,7 +58,7 @@ of_old = landing 2 0x8050 0x4124 (203 ∷ 0x8060 ∷ 112 ∷ 1013 ∷ 114 ∷ 10
 abbrev pub of_outer : LandingPad
 of_outer = landing 3 0x8070 0x4030 (203 ∷ 1006 ∷ 1012 ∷ 1013 ∷ 1014 ∷ 1015 ∷ [])
 
--- attempts after `caught`, x86_64
+-- attempts after `caught`, x86-64
 abbrev pub attempts : List Attempt
 attempts =
     -- a store into the return address of `plain`, which comes next

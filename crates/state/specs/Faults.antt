@@ -27,7 +27,7 @@ pub record SaveFaults (st : State) (reg slot : ℕ) : Type 0 where
   pub too_many : (changed (save st reg slot) ≡ Refused 32) ↔ (Beyond32 st reg × (Unfit reg slot → ⊥))
   pub no_other : (n : ℕ) → changed (save st reg slot) ≡ Refused n → (n ≡ 28) ⊎ (n ≡ 18) ⊎ (n ≡ 32)
 
--- a restore: where it saves the return register again, as on x86_64, that may be a 33rd
+-- a restore: where it saves the return register again, as on x86-64, that may be a 33rd
 pub record RestoreFaults (a : Arch) (st : State) (reg : ℕ) : Type 0 where
   pub overfull : (changed (restore a st reg) ≡ Refused 28) ↔ (32 < st.count)
   pub too_many : (changed (restore a st reg) ≡ Refused 32) ↔ ((reg ≡ a.ra) × (a.entry_slot ≢ 0) × Beyond32 st reg)

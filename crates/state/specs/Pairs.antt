@@ -1,6 +1,5 @@
 -- Where a register's pair stands, and the slot in it.
-use Rattle.std.specs.Prelude.{List, ℕ, zero, suc, ◌+◌, eqb, get_or}
-use Rattle.failure.specs.Choice.{if◌then◌else◌}
+use Rattle.std.specs.Prelude.{List, ℕ, zero, suc, ◌+◌, eqb, get_or, if◌then◌else◌}
 use Rattle.state.specs.declared.State.{State}
 use Rattle.state.specs.declared.Found.{Found}
 use Rattle.state.specs.declared.Found.TheVariants.{At, Nowhere}

@@ -1,7 +1,6 @@
 -- What the public functions come to: 28 for an architecture other than 1 and 2, and then for a state that counts more than 32 pairs.
 use Rattle.std.proofs.Math.Option.{Option, some, none}
-use Rattle.std.specs.Prelude.{ℕ, get_or}
-use Rattle.failure.specs.Choice.{if◌then◌else◌}
+use Rattle.std.specs.Prelude.{ℕ, get_or, if◌then◌else◌}
 use Rattle.failure.specs.Outcome.{Outcome, Refused, Answer}
 use Rattle.failure.specs.Failure as Failure
 use Rattle.arch.specs.Arch.{numbers, is_known}

@@ -1,6 +1,5 @@
 -- `restore` (document 01, "The state program").
-use Rattle.std.specs.Prelude.{List, ℕ, zero, suc, ◌+◌, ◌-◌, eqb, get_or, set}
-use Rattle.failure.specs.Choice.{if◌then◌else◌}
+use Rattle.std.specs.Prelude.{List, ℕ, zero, suc, ◌+◌, ◌-◌, eqb, get_or, set, if◌then◌else◌}
 use Rattle.arch.specs.Arch.{Arch}
 use Rattle.state.specs.declared.State.{State}
 use Rattle.state.specs.declared.Found.{Found}

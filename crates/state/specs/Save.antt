@@ -1,6 +1,5 @@
 -- `save` (document 01, "The state program").
-use Rattle.std.specs.Prelude.{ℕ, ◌+◌, eqb, ltb, set}
-use Rattle.failure.specs.Choice.{if◌then◌else◌}
+use Rattle.std.specs.Prelude.{ℕ, ◌+◌, eqb, ltb, set, if◌then◌else◌}
 use Rattle.state.specs.declared.State.{State}
 use Rattle.state.specs.declared.Found.{Found}
 use Rattle.state.specs.declared.Found.TheVariants.{At, Nowhere}

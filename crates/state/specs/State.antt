@@ -1,7 +1,6 @@
 -- Unwind states (document 01, "The state program": "base sp or fp, units, up to 32 pairs (register, slot)").
 -- The pairs are the first `count` numbers of `regs` and `slots`; what stands past the count is part of a state too.
-use Rattle.std.specs.Prelude.{Bool, false, List, ℕ, eqb, ltb, set, replicate}
-use Rattle.failure.specs.Choice.{if◌then◌else◌}
+use Rattle.std.specs.Prelude.{Bool, false, List, ℕ, eqb, ltb, set, replicate, if◌then◌else◌}
 use Rattle.arch.specs.Arch.{Arch}
 use Rattle.state.specs.declared.State.{State}
 
@@ -40,7 +39,7 @@ with_first st reg slot =
       slots = set st.slots 0 slot;
     }
 
--- the entry state: sp, 0 units, no pair (aarch64); sp, 1 unit, (16, 1) (x86_64)
+-- the entry state: sp, 0 units, no pair (aarch64); sp, 1 unit, (16, 1) (x86-64)
 unfoldable pub entry : Arch → State
 entry a =
     if eqb a.entry_slot 0 then bare a.entry_units

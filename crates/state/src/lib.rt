@@ -33,14 +33,14 @@ pub struct State {
 }
 
 // The place of a register's pair.
-#[derive(Drop)]
+#[derive(Clone, Copy)]
 pub enum Found {
     At(usize),
     Nowhere,
 }
 
 // Whether a state was changed; a 33rd register is told apart from the other faults of a save.
-#[derive(Drop)]
+#[derive(Clone, Copy)]
 pub enum Status {
     Done,
     OutOfRange,
@@ -49,7 +49,7 @@ pub enum Status {
 }
 
 // The slot of a register.
-#[derive(Drop)]
+#[derive(Clone, Copy)]
 pub enum Slot {
     In(u16),
     Unsaved,
@@ -57,14 +57,14 @@ pub enum Slot {
 }
 
 // A state after a call: the next one, or for a refusal the one that came in.
-#[derive(Drop)]
+#[derive(Clone, Copy)]
 pub struct Next {
     pub status: Status,
     pub state: State,
 }
 
 // Whether pairs were changed in place, and how many there are then.
-#[derive(Drop)]
+#[derive(Clone, Copy)]
 pub struct Counted {
     pub status: Status,
     pub count: usize,

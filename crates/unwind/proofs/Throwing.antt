@@ -1,10 +1,8 @@
 -- Laws of a throw: the unwinding that it hands back, and the test for 28. Assumes nothing.
 use mathlib.Core.Path.{◌≡◌, refl, ◌∙◌, ap}
 use mathlib.Core.Bool.{Bool, true, false, ◌&&◌}
-use mathlib.Core.List.{List, [], ◌∷◌}
+use mathlib.Core.List.{List}
 use Prim.Native.Nat.{ℕ}
-use types.Run.{OneOf, miss}
-use denote.Enum.Declared.{tag_of}
 use Rattle.failure.specs.Outcome.{Outcome, Refused}
 use Rattle.failure.specs.Failure.{BadOpening}
 use Rattle.mem.specs.Memory.{Lent}
@@ -18,7 +16,6 @@ use Rattle.model.specs.Unwinding.{frame0, raise, given, unchosen, choosing}
 use Rattle.unwind.specs.Answers.{frame_at, searched, raised_by}
 use Rattle.unwind.specs.declared.RaiseAnswer.{RaiseAnswer}
 use Rattle.unwind.specs.declared.RaiseAnswer.TheVariants as answer
-use Rattle.unwind.specs.contracts.RaiseAnswer.{the_type}
 use Rattle.unwind.proofs.Opened.{closed_28, open_passes}
 
 module _ (file : List ℕ) (at : ℕ) (interrupted : Bool) (exception : ℕ) where
@@ -41,15 +38,15 @@ module _ (file : List ℕ) (at : ℕ) (interrupted : Bool) (exception : ℕ) whe
   begun_refused x n h = rw h
 
   -- the cases between: nothing was chosen
-  pub begun_unchosen : (x : RaiseAnswer) → OneOf (1 ∷ 2 ∷ []) (tag_of the_type x) → (regs : Regs) → regs.r ≡ set_pc file at →
+  pub begun_unchosen : (x : RaiseAnswer) → ((number sp : ℕ) → x ≡ answer.Chosen number sp → ⊥) → ((n : ℕ) → x ≡ answer.Refused n → ⊥) → (regs : Regs) → regs.r ≡ set_pc file at →
       record { answer = x; unwinding = unchosen (frame_at 0 interrupted regs) exception }
       ≡ raised_by file at interrupted exception (searched x)
-  begun_unchosen (answer.Chosen number sp) k regs e = absurd (miss (1 ∷ 2 ∷ []) 0 tt k)
-  begun_unchosen answer.Stopped k regs e =
+  begun_unchosen (answer.Chosen number sp) k j regs e = absurd (k number sp refl)
+  begun_unchosen answer.Stopped k j regs e =
       ap (λ (f : Frame). record { answer = answer.Stopped; unwinding = unchosen f exception }) (begins regs e)
-  begun_unchosen answer.Ended k regs e =
+  begun_unchosen answer.Ended k j regs e =
       ap (λ (f : Frame). record { answer = answer.Ended; unwinding = unchosen f exception }) (begins regs e)
-  begun_unchosen (answer.Refused n) k regs e = absurd (miss (1 ∷ 2 ∷ []) 3 tt k)
+  begun_unchosen (answer.Refused n) k j regs e = absurd (j n refl)
 
   module _ (l : Lent) (arch : ℕ) where
     -- 28

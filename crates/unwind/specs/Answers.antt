@@ -1,6 +1,5 @@
 -- Document 01's number and values for each case of this crate's answers.
 use Rattle.std.specs.Prelude.{Bool, true, false, List, [], ◌∷◌, ℕ}
-use Rattle.failure.specs.Outcome as Outcome
 use Rattle.failure.specs.Outcome.{Outcome, Answer}
 use Rattle.arch.specs.declared.Regs.{Regs}
 use Rattle.model.specs.declared.Unwinding.{Unwinding}

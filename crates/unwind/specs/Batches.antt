@@ -1,7 +1,5 @@
 -- Up to 16 frames of a walk at once.
-use Rattle.std.specs.Prelude.{◌&&◌, List, ℕ, zero, suc, ◌+◌, set, replicate}
-use Rattle.failure.specs.Choice.{if◌then◌else◌}
-use Rattle.failure.specs.Outcome as Outcome
+use Rattle.std.specs.Prelude.{◌&&◌, List, ℕ, zero, suc, ◌+◌, set, replicate, if◌then◌else◌}
 use Rattle.failure.specs.Outcome.{Outcome, Answer, ◌>>=◌}
 use Rattle.failure.specs.Failure.{BadOpening}
 use Rattle.mem.specs.Memory.{Lent}

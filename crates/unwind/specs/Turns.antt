@@ -1,8 +1,6 @@
 -- What a turn of a loop comes to: no definition of the model goes through these.
-use Rattle.std.specs.Prelude.{◌≡◌, Bool, not, ◌&&◌, ◌||◌, List, ℕ, eqb, ltb}
+use Rattle.std.specs.Prelude.{◌≡◌, Bool, not, ◌&&◌, ◌||◌, List, ℕ, eqb, ltb, if◌then◌else◌}
 use Rattle.std.proofs.Math.Option.{Option, none, some}
-use Rattle.failure.specs.Choice.{if◌then◌else◌}
-use Rattle.failure.specs.Outcome as Outcome
 use Rattle.failure.specs.Outcome.{Outcome, Answer, ◌>>=◌}
 use Rattle.failure.specs.Failure.{StackNotAdvancing, TooManyFrames, HandlerFrameMissed}
 use Rattle.mem.specs.Memory.{Memory, Lent, lent}
@@ -10,7 +8,6 @@ use Rattle.arch.specs.Arch.{Arch, numbers}
 use Rattle.arch.specs.File.{pc}
 use Rattle.arch.specs.declared.Status.{Status}
 use Rattle.arch.specs.declared.Status.TheVariants as status
-use Rattle.rows.specs.Row as Found
 use Rattle.rows.specs.Row.{Found, cleanup, catch}
 use Rattle.rows.specs.declared.Row.{Row}
 use Rattle.rows.specs.declared.Row.TheVariants as row

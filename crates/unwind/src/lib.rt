@@ -34,7 +34,7 @@ const NEXT_INTERRUPTED: bool = false;
 pub const BATCH_FRAMES: usize = 16;
 
 // What a frame step comes to: the walk ends, or it is past the frame with this record, or a refusal.
-#[derive(Drop)]
+#[derive(Clone, Copy)]
 pub enum Walked {
     End,
     Past(Record),
@@ -42,7 +42,7 @@ pub enum Walked {
 }
 
 // A frame step: past the frame its caller's number and file; else the frame's own.
-#[derive(Drop)]
+#[derive(Clone, Copy)]
 pub struct Stepped {
     pub regs: Regs,
     pub number: usize,
@@ -52,7 +52,7 @@ pub struct Stepped {
 
 // Frames of a walk, the innermost first: the start of each one's record, its pc and its sp. What stands past the count is 0.
 #[repr(C)]
-#[derive(Drop)]
+#[derive(Clone, Copy)]
 pub struct Frames {
     pub count: usize,
     pub starts: [usize; 16],
@@ -61,7 +61,7 @@ pub struct Frames {
 }
 
 // How a call of walk comes to its end: there may be more frames, the walk ends, or a refusal.
-#[derive(Drop)]
+#[derive(Clone, Copy)]
 pub enum WalkAnswer {
     More,
     End,
@@ -69,7 +69,7 @@ pub enum WalkAnswer {
 }
 
 // Up to 16 frames of a walk. If there may be more, the frame that the walk goes on from; else the one that came in.
-#[derive(Drop)]
+#[derive(Clone, Copy)]
 pub struct Batch {
     pub regs: Regs,
     pub frames: Frames,
@@ -79,7 +79,7 @@ pub struct Batch {
 }
 
 // What a throw comes to: 6 with the chosen frame's number and sp, 3, 5, or a refusal.
-#[derive(Drop)]
+#[derive(Clone, Copy)]
 pub enum RaiseAnswer {
     Chosen(usize, usize),
     Stopped,
@@ -88,14 +88,14 @@ pub enum RaiseAnswer {
 }
 
 // A throw, and the unwinding at frame 0.
-#[derive(Drop)]
+#[derive(Clone, Copy)]
 pub struct Raised {
     pub unwinding: Unwinding,
     pub answer: RaiseAnswer,
 }
 
 // What a sweep call comes to: the landing of the frame with this number, 2, finished, or a refusal.
-#[derive(Drop)]
+#[derive(Clone, Copy)]
 pub enum ResumeAnswer {
     Install(usize),
     Fatal,
@@ -104,7 +104,7 @@ pub enum ResumeAnswer {
 }
 
 // A sweep call: for a landing the file at the pad and the unwinding past the frame; else those that came in.
-#[derive(Drop)]
+#[derive(Clone, Copy)]
 pub struct Resumed {
     pub regs: Regs,
     pub unwinding: Unwinding,
@@ -112,14 +112,14 @@ pub struct Resumed {
 }
 
 // A throw, and one of the calls after it.
-#[derive(Drop)]
+#[derive(Clone, Copy)]
 pub struct Unwound {
     pub raised: RaiseAnswer,
     pub resumed: Resumed,
 }
 
 // A frame's record: the walk ends at the frame, or the frame has this one, or a refusal.
-#[derive(Drop)]
+#[derive(Clone, Copy)]
 enum Located {
     End,
     At(Record),
@@ -127,7 +127,7 @@ enum Located {
 }
 
 // A frame of a walk: the walk ends; it is past the frame, whose record has this start; or a refusal.
-#[derive(Drop)]
+#[derive(Clone, Copy)]
 enum Given {
     End,
     Frame(usize),
@@ -136,7 +136,7 @@ enum Given {
 
 // A frame that was met: the walk ends; it is past the frame with this record, and no row was found or asked for; it is past the frame,
 // whose row is told with the start of the record, the pad and the action; or a refusal.
-#[derive(Drop)]
+#[derive(Clone, Copy)]
 enum Met {
     End,
     Rowless(Record),
@@ -145,14 +145,14 @@ enum Met {
 }
 
 // A turn of the search: it goes on with the next frame, or stops.
-#[derive(Drop)]
+#[derive(Clone, Copy)]
 enum Looking {
     On,
     Stop(RaiseAnswer),
 }
 
 // A turn of the sweep: it goes on with the next frame; the frame lands, by the start of its record and the pad; or the sweep stops.
-#[derive(Drop)]
+#[derive(Clone, Copy)]
 enum Cleaning {
     On,
     Install(usize, usize),

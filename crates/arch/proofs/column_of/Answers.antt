@@ -1,7 +1,6 @@
 -- `arch::column_of` meets its contract: each test says which run of columns the register is in. Assumes nothing.
 use mathlib.Core.Path.{ap}
 use native.Mathlib.Omega.{arith}
-use borrow.Author.Rules.{rules}
 use Rattle.arch.specs.declared.Arch2.{Arch2}
 use Rattle.arch.proofs.Arch.{fits}
 use Rattle.arch.proofs.File.{column-low, column-between, column-above, column-high}

@@ -1,7 +1,6 @@
 -- `arch::fp_column` meets its contract. Assumes nothing.
 use mathlib.Core.Path.{ap}
 use native.Mathlib.Omega.{arith}
-use borrow.Author.Rules.{rules}
 use Rattle.arch.specs.declared.Arch2.{Arch2}
 use Rattle.arch.proofs.Arch.{fits}
 use Rattle.arch.proofs.fp_column.Goals as goal

@@ -1,7 +1,6 @@
 -- `arch::saved` meets its contract: the constant tables are the definition's lists. Assumes nothing.
 use mathlib.Core.Path.{sym}
 use lib.ListN.{get_or-eq_default}
-use borrow.Author.Rules.{rules}
 use Rattle.arch.specs.Arch.{aarch64, x86_64}
 use Rattle.arch.proofs.Arch.{numbers-aarch64, numbers_x86_64}
 use Rattle.arch.proofs.saved.Goals as goal

@@ -1,7 +1,5 @@
 -- `arch::strip_pac` meets its contract. Assumes nothing.
 use mathlib.Core.Path.{sym, ◌∙◌, ap}
-use borrow.Author.Rules.{rules}
-use borrow.Author.Tests.{not-true, not-false}
 use Rattle.failure.specs.Outcome.{Answer}
 use Rattle.arch.specs.Public.{strip_pac}
 use Rattle.arch.proofs.Known.{unknown_refused, known_goes_on}

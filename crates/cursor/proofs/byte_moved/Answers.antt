@@ -1,7 +1,6 @@
 -- `cursor::byte_moved` meets its contract, case by case; a byte that is read stands below the limit, so its place has a next one. Assumes nothing.
 use mathlib.Core.Path.{sym, ◌∙◌, ap}
 use native.Mathlib.Omega.{arith}
-use borrow.Author.Rules.{rules}
 use Rattle.leb.proofs.Reader.{byte-read}
 use Rattle.cursor.specs.Cursor.{moved_byte_of}
 use Rattle.cursor.proofs.byte_moved.Goals as goal

@@ -1,6 +1,5 @@
 -- `cursor::placed` meets its contract, case by case. Assumes nothing.
 use mathlib.Core.Path.{sym, ap}
-use borrow.Author.Rules.{rules}
 use Rattle.cursor.specs.Cursor as Cursor
 use Rattle.cursor.proofs.placed.Goals as goal
 

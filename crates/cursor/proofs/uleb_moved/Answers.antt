@@ -1,6 +1,5 @@
 -- `cursor::uleb_moved` meets its contract, case by case. Assumes nothing.
 use mathlib.Core.Path.{sym, ◌∙◌, ap}
-use borrow.Author.Rules.{rules}
 use Rattle.cursor.specs.Cursor.{moved_of}
 use Rattle.cursor.proofs.uleb_moved.Goals as goal
 

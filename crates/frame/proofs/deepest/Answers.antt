@@ -1,8 +1,6 @@
 -- `frame::deepest` meets its contract. Assumes nothing.
-use Prim.Native.Nat.{◌-◌}
 use native.Mathlib.Omega.{arith}
 use lib.Dec.{lit<}
-use borrow.Author.Rules.{rules}
 use Rattle.frame.proofs.InStack.{deepest-low, deepest-high}
 use Rattle.frame.proofs.deepest.Goals as goal
 

@@ -3,7 +3,6 @@ use mathlib.Core.Path.{sym, ◌∙◌}
 use native.Mathlib.Omega.{arith}
 use lib.Dec.{lit<}
 use borrow.Author.Tests.{eq-eqb, ne_eqb}
-use borrow.Author.Rules.{rules}
 use Rattle.frame.proofs.first_slot.Goals as goal
 
 pub returns-then-kind-eq-KIND_FP : goal.returns-then-kind-eq-KIND_FP

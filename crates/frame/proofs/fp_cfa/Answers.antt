@@ -1,6 +1,5 @@
 -- `frame::fp_cfa` meets its contract. Assumes nothing.
 use mathlib.Core.Path.{sym, ◌∙◌, ap}
-use borrow.Author.Rules.{rules}
 use Rattle.failure.specs.Outcome.{Answer}
 use Rattle.frame.specs.Step.{fp_cfa}
 use Rattle.frame.proofs.fp_cfa.Goals as goal

@@ -1,6 +1,5 @@
 -- `frame::frame_cfa` meets its contract. Assumes nothing.
 use mathlib.Core.Path.{sym, ◌∙◌}
-use borrow.Author.Rules.{rules}
 use Rattle.frame.proofs.Cfa.{past_refused, kind-leaf, kind-fp, kind-sp, kind_other}
 use Rattle.frame.proofs.frame_cfa.Goals as goal
 

@@ -1,7 +1,5 @@
 -- `frame::leaf_cfa` meets its contract. Assumes nothing.
 use mathlib.Core.Path.{◌∙◌, ap}
-use borrow.Author.Tests.{not-true, not-false}
-use borrow.Author.Rules.{rules}
 use Rattle.failure.specs.Outcome.{Answer}
 use Rattle.arch.specs.declared.Arch2.{Arch2}
 use Rattle.frame.proofs.Cfa.{leaf_masked, leaf_called, leaf-passes}

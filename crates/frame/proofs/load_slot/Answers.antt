@@ -1,6 +1,5 @@
 -- `frame::load_slot` meets its contract. Assumes nothing.
 use mathlib.Core.Path.{sym, ◌∙◌, ap}
-use borrow.Author.Rules.{rules}
 use Rattle.mem.specs.Word.{loaded}
 use Rattle.frame.proofs.Slot.{slot_at}
 use Rattle.frame.proofs.load_slot.Goals as goal

@@ -3,7 +3,6 @@ use mathlib.Core.Path.{ap}
 use Prim.Native.Nat.{◌^◌, ◌<◌}
 use native.Mathlib.Omega.{arith}
 use lib.Count.{ones, ones-le}
-use borrow.Author.Rules.{rules}
 use Rattle.frame.proofs.named_count.Goals as goal
 
 pub overflow_cast-result : goal.overflow_cast-result

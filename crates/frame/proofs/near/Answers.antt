@@ -4,7 +4,6 @@ use Prim.Native.Nat.{◌-◌, ◌*◌}
 use native.Mathlib.Omega.{arith}
 use lib.ListN.{length}
 use borrow.Author.Tests.{leb-true}
-use borrow.Author.Rules.{rules}
 use Rattle.frame.proofs.InStack.{no}
 use Rattle.frame.proofs.near.Goals as goal
 

@@ -1,6 +1,5 @@
 -- `frame::past_table` meets its contract. Assumes nothing.
 use native.Mathlib.Omega.{arith}
-use borrow.Author.Rules.{rules}
 use Rattle.frame.specs.Step.{past_table}
 use Rattle.frame.proofs.Named.{table-short}
 use Rattle.frame.proofs.past_table.Goals as goal

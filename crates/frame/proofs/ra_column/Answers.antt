@@ -1,6 +1,5 @@
 -- `frame::ra_column` meets its contract. Assumes nothing.
 use mathlib.Core.Path.{ap}
-use borrow.Author.Rules.{rules}
 use Rattle.arch.specs.declared.Arch2.{Arch2}
 use Rattle.frame.proofs.Ra.{ra-known}
 use Rattle.frame.proofs.Columns.{column-told, column_there}

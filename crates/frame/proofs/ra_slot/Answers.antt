@@ -1,7 +1,6 @@
 -- `frame::ra_slot` meets its contract. Assumes nothing.
 use mathlib.Core.Path.{sym, ◌∙◌, ap}
 use borrow.Author.Tests.{eq-eqb, ne_eqb}
-use borrow.Author.Rules.{rules}
 use Rattle.arch.specs.declared.Arch2.{Arch2}
 use Rattle.frame.specs.Frame.{ra_slot}
 use Rattle.frame.proofs.ra_slot.Goals as goal

@@ -1,5 +1,4 @@
 -- `frame::return_to` meets its contract. Assumes nothing.
-use borrow.Author.Rules.{rules}
 use Rattle.frame.proofs.return_to.Goals as goal
 
 pub returns : goal.returns

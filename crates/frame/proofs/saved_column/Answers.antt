@@ -1,5 +1,4 @@
 -- `frame::saved_column` meets its contract. Assumes nothing.
-use borrow.Author.Rules.{rules}
 use Rattle.frame.proofs.Columns.{saved-known, column-told, column_there}
 use Rattle.frame.proofs.saved_column.Goals as goal
 

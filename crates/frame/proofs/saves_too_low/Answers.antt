@@ -2,7 +2,6 @@
 use mathlib.Core.Path.{subst}
 use Prim.Native.Nat.{ℕ, ◌<◌, ◌≤◌}
 use borrow.Author.Tests.{lt-ltb, le-ltb}
-use borrow.Author.Rules.{rules}
 use Rattle.frame.proofs.saves_too_low.Goals as goal
 
 pub returns-then-param-lt3 : goal.returns-then-param-lt3

@@ -1,7 +1,6 @@
 -- `frame::sp_cfa` meets its contract. Assumes nothing.
 use mathlib.Core.Path.{◌∙◌, ap}
 use Prim.Native.Nat.{ℕ, ◌*◌}
-use borrow.Author.Rules.{rules}
 use Rattle.failure.specs.Outcome.{Answer}
 use Rattle.mem.specs.Wrapping.{sum}
 use Rattle.frame.specs.Step.{sp_cfa}

@@ -2,7 +2,6 @@
 use mathlib.Core.Path.{sym, ◌∙◌, ap, subst}
 use Prim.Native.Nat.{◌^◌}
 use native.Mathlib.Omega.{arith}
-use borrow.Author.Rules.{rules}
 use Rattle.failure.specs.Outcome.{Refused, Answer}
 use Rattle.mem.specs.Word.{loaded, Below}
 use Rattle.mem.specs.declared.load.Word.{Word}

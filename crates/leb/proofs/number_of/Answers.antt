@@ -1,6 +1,5 @@
 -- `leb::number_of` meets its contract, case by case. Assumes nothing.
 use mathlib.Core.Path.{sym, ap}
-use borrow.Author.Rules.{rules}
 use Rattle.leb.specs.Reader.{numbered}
 use Rattle.leb.proofs.number_of.Goals as goal
 

@@ -1,7 +1,5 @@
 -- `leb::read_uleb` meets its contract. Assumes nothing.
 use mathlib.Core.Path.{sym, ◌∙◌}
-use borrow.Author.Rules.{rules}
-use borrow.Author.Tests.{not-true, not-false}
 use Rattle.leb.specs.Reader.{read_uleb}
 use Rattle.leb.proofs.read_uleb.Goals as goal
 

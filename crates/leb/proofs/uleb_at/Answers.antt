@@ -1,12 +1,9 @@
 -- `leb::uleb_at` meets its contract: each turn adds a group to what was read so far. Assumes nothing.
 use mathlib.Core.Path.{sym, ◌∙◌}
-use Prim.Native.Nat.{◌-◌}
 use native.Mathlib.Omega.{arith}
-use Rattle.mem.specs.Memory.{lent}
-use Rattle.leb.proofs.Sofar.{Sofar, begin, weight_bound, turn, ends, ends_at_limit, ends-outside, over}
+use Rattle.leb.proofs.Sofar.{begin, weight_bound, turn, ends, ends_at_limit, ends-outside, over}
 use Rattle.leb.proofs.Reader.{byte-read}
 use Rattle.leb.proofs.Told.{uleb-given}
-use borrow.Author.Rules.{rules}
 use Rattle.leb.proofs.uleb_at.Goals as goal
 
 pub loop-i-init : goal.loop-i-init

@@ -1,7 +1,6 @@
 -- `lookup::address_of` meets its contract. Assumes nothing.
 use borrow.Author.Tests.{eq-eqb, ne_eqb}
 use Rattle.lookup.specs.Record.{address_of}
-use borrow.Author.Rules.{rules}
 use Rattle.lookup.proofs.address_of.Goals as goal
 
 pub returns-then-off-eq0 : goal.returns-then-off-eq0

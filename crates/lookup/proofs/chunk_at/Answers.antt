@@ -1,7 +1,6 @@
 -- `lookup::chunk_at` meets its contract. Assumes nothing.
 use native.Mathlib.Omega.{arith}
 use Rattle.lookup.proofs.Headers.{stride_small, chunk-made}
-use borrow.Author.Rules.{rules}
 use Rattle.lookup.proofs.chunk_at.Goals as goal
 
 pub returns : goal.returns

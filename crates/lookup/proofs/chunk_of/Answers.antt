@@ -11,7 +11,6 @@ use Rattle.lookup.specs.declared.Chunk.{Chunk}
 use Rattle.lookup.specs.Lookup.{looked, ChunkOf}
 use Rattle.mem.proofs.Part.{lends_part}
 use Rattle.lookup.proofs.Opened.{arch_in}
-use borrow.Author.Rules.{rules}
 use Rattle.lookup.proofs.chunk_of.Goals as goal
 
 -- every case but the first finds no chunk

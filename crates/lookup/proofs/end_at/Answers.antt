@@ -1,6 +1,5 @@
 -- `lookup::end_at` meets its contract. Assumes nothing.
 use Rattle.lookup.proofs.Records.{end-made}
-use borrow.Author.Rules.{rules}
 use Rattle.lookup.proofs.end_at.Goals as goal
 
 pub returns : goal.returns

@@ -4,7 +4,6 @@ use Prim.Native.Nat.{◌+◌}
 use native.Mathlib.Omega.{arith}
 use native.Mathlib.Nat.{mul-le-mul_left}
 use Rattle.lookup.proofs.Headers.{fault_magic, fault_version, fault_marks, marks_passed, fault_small, fault_odd, fault_end}
-use borrow.Author.Rules.{rules}
 use Rattle.lookup.proofs.faulty.Goals as goal
 
 pub returns-then-magic-ne-MAGIC : goal.returns-then-magic-ne-MAGIC

@@ -1,11 +1,8 @@
 -- `lookup::find` meets its contract. The invariant is `Looking`; the measure is the bytes that are left. Assumes nothing.
 use mathlib.Core.Path.{sym, ◌∙◌}
-use Prim.Native.Nat.{◌-◌}
 use native.Mathlib.Omega.{arith}
-use lib.ListN.{length}
-use borrow.Author.Rules.{rules}
 use Rattle.lookup.proofs.Headers.{head_inside, head_chunk}
-use Rattle.lookup.proofs.Turns.{Looking, looking_begin, looking_padding, looking_fault, looking_next, looking_unsorted, looking_held, looking_over}
+use Rattle.lookup.proofs.Turns.{looking_begin, looking_padding, looking_fault, looking_next, looking_unsorted, looking_held, looking_over}
 use Rattle.lookup.proofs.find.Goals as goal
 
 pub loop-k-init : goal.loop-k-init

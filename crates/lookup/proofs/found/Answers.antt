@@ -1,7 +1,6 @@
 -- `lookup::found` meets its contract. Assumes nothing.
 use Rattle.lookup.proofs.Headers.{header_room}
 use Rattle.lookup.proofs.Turns.{found-made}
-use borrow.Author.Rules.{rules}
 use Rattle.lookup.proofs.found.Goals as goal
 
 pub chunk_at-c-requires : goal.chunk_at-c-requires

@@ -1,9 +1,8 @@
 -- `lookup::halve` meets its contract. The invariant is `Halved`; the measure is what is left of the turns. Assumes nothing.
 use mathlib.Core.Path.{refl}
 use native.Mathlib.Omega.{arith}
-use borrow.Author.Rules.{rules}
 use Rattle.lookup.proofs.Records.{number-room}
-use Rattle.lookup.proofs.Halving.{Halved, halved-begin, halved_turn, halved_over, counts_fit}
+use Rattle.lookup.proofs.Halving.{halved-begin, halved_turn, halved_over, counts_fit}
 use Rattle.lookup.proofs.halve.Goals as goal
 
 pub loop-turns-init : goal.loop-turns-init

@@ -1,7 +1,6 @@
 -- `lookup::handlers2` meets its contract. Assumes nothing.
 use borrow.Author.Tests.{lt-ltb, le-ltb}
 use Rattle.lookup.specs.Record.{handlers_of}
-use borrow.Author.Rules.{rules}
 use Rattle.lookup.proofs.handlers2.Goals as goal
 
 pub returns-then-data-lt-DATA_HANDLERS : goal.returns-then-data-lt-DATA_HANDLERS

@@ -2,7 +2,6 @@
 use mathlib.Core.Path.{sym, ◌∙◌}
 use native.Mathlib.Omega.{arith}
 use Rattle.lookup.proofs.Headers.{head_padding, head_fault, fault_version, chunk_of_1, chunk_of_2, chunk_unknown}
-use borrow.Author.Rules.{rules}
 use Rattle.lookup.proofs.head_at.Goals as goal
 
 pub returns-then-magic-eq0 : goal.returns-then-magic-eq0

@@ -3,7 +3,6 @@ use mathlib.Core.Path.{◌∙◌}
 use native.Mathlib.Omega.{arith}
 use Rattle.lookup.proofs.Records.{stands-room, first-number, left_stands, stands-start, stands-end}
 use Rattle.lookup.proofs.Neighbours.{left_none, left_some}
-use borrow.Author.Rules.{rules}
 use Rattle.lookup.proofs.left_meets.Goals as goal
 
 pub returns-then-k-c : goal.returns-then-k-c

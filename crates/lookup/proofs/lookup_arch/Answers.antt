@@ -1,8 +1,6 @@
 -- `lookup::lookup_arch` meets its contract. Assumes nothing.
 use mathlib.Core.Path.{sym, ◌∙◌}
-use borrow.Author.Tests.{not-true, not-false}
 use Rattle.lookup.proofs.Opened.{arch_closed, arch_unknown, arch_open}
-use borrow.Author.Rules.{rules}
 use Rattle.lookup.proofs.lookup_arch.Goals as goal
 
 pub returns-then-not-opens : goal.returns-then-not-opens

@@ -6,7 +6,6 @@ use native.Mathlib.Omega.{arith}
 use lib.ListN.{length, take}
 use lib.Seq.{take_all}
 use Rattle.lookup.specs.Lookup.{lookup}
-use borrow.Author.Rules.{rules}
 use Rattle.lookup.proofs.lookup_part.Goals as goal
 
 -- the part, cut to its own length, is the part

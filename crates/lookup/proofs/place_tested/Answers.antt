@@ -1,6 +1,5 @@
 -- `lookup::place_tested` meets its contract. Assumes nothing.
 use mathlib.Core.Path.{sym, ◌∙◌}
-use borrow.Author.Rules.{rules}
 use Rattle.lookup.proofs.place_tested.Goals as goal
 
 pub returns-then-bad_record : goal.returns-then-bad_record

@@ -3,7 +3,6 @@ use mathlib.Core.Path.{sym}
 use native.Mathlib.Omega.{arith}
 use borrow.Author.Tests.{eq-eqb, ne_eqb}
 use Rattle.lookup.proofs.Records.{stands-room}
-use borrow.Author.Rules.{rules}
 use Rattle.lookup.proofs.rec.Goals as goal
 
 pub record_at-requires : goal.record_at-requires

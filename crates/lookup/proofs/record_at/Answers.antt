@@ -1,6 +1,5 @@
 -- `lookup::record_at` meets its contract. Assumes nothing.
 use Rattle.lookup.proofs.Records.{record-made}
-use borrow.Author.Rules.{rules}
 use Rattle.lookup.proofs.record_at.Goals as goal
 
 pub returns : goal.returns

@@ -1,6 +1,5 @@
 -- `lookup::record_at2` meets its contract. Assumes nothing.
 use Rattle.lookup.proofs.Records.{record2-made}
-use borrow.Author.Rules.{rules}
 use Rattle.lookup.proofs.record_at2.Goals as goal
 
 pub returns : goal.returns

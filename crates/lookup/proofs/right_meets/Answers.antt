@@ -3,7 +3,6 @@ use mathlib.Core.Path.{◌∙◌}
 use native.Mathlib.Omega.{arith}
 use Rattle.lookup.proofs.Records.{stands-room, last-number, right_stands, stands-start, stands-end}
 use Rattle.lookup.proofs.Neighbours.{right_none, right_some}
-use borrow.Author.Rules.{rules}
 use Rattle.lookup.proofs.right_meets.Goals as goal
 
 pub overflow_add-next : goal.overflow_add-next

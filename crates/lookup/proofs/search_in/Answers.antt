@@ -3,7 +3,6 @@ use mathlib.Core.Path.{◌∙◌}
 use native.Mathlib.Omega.{arith}
 use Rattle.lookup.proofs.Records.{stands-room, first-stands, last-stands, stands-start, stands-end}
 use Rattle.lookup.proofs.InRange.{range_empty, range_below, range_above, range_within, search_skips, search_goes}
-use borrow.Author.Rules.{rules}
 use Rattle.lookup.proofs.search_in.Goals as goal
 
 pub returns-then-c-eq0 : goal.returns-then-c-eq0

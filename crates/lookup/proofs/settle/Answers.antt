@@ -4,7 +4,6 @@ use native.Mathlib.Omega.{arith}
 use Rattle.lookup.proofs.Records.{stands-room, stands-start, stands-end, stands-record, holds-below, holds-above, holds-within}
 use Rattle.lookup.proofs.Neighbours.{settle_left, settle_right, settle_not, settle-held}
 use Rattle.lookup.proofs.Halving.{search-halved}
-use borrow.Author.Rules.{rules}
 use Rattle.lookup.proofs.settle.Goals as goal
 
 pub start_at-start-requires : goal.start_at-start-requires

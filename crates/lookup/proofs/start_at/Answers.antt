@@ -1,6 +1,5 @@
 -- `lookup::start_at` meets its contract. Assumes nothing.
 use Rattle.lookup.proofs.Records.{start-made}
-use borrow.Author.Rules.{rules}
 use Rattle.lookup.proofs.start_at.Goals as goal
 
 pub returns : goal.returns

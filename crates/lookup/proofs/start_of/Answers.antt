@@ -2,7 +2,6 @@
 use mathlib.Core.Path.{sym, ◌∙◌}
 use native.Mathlib.Omega.{arith}
 use Rattle.lookup.proofs.Records.{number-room, record-start}
-use borrow.Author.Rules.{rules}
 use Rattle.lookup.proofs.start_of.Goals as goal
 
 pub overflow_mul-i : goal.overflow_mul-i

@@ -2,7 +2,6 @@
 use native.Mathlib.Omega.{arith}
 use Prim.Native.Nat.{◌+◌}
 use Rattle.lookup.proofs.Fields.{word_none, word_more}
-use borrow.Author.Rules.{rules}
 use Rattle.lookup.proofs.u32_at.Goals as goal
 
 pub returns : goal.returns

@@ -1,6 +1,5 @@
 -- `program::act` meets its contract: each return is a law of `act`. Assumes nothing.
 use mathlib.Core.Path.{◌∙◌}
-use borrow.Author.Rules.{rules}
 use Rattle.program.proofs.Following.{followed_done, followed_refused}
 use Rattle.program.proofs.Loop.{act-found, act-end, act-advance, act-set, act_set_refused, act-remember, act-recall}
 use Rattle.program.proofs.act.Goals as goal
@@ -16,22 +15,20 @@ returns-in-Advance c = (
 )
 
 pub returns-in-Done : goal.returns-in-Done
-returns-in-Done c =
-    (
-      λ states len.
-          act-found _ _ _ _ _ _ _ c.in-Set.is
-          (act-set _ _ _ _ _ _ (followed_done _ _ _ c.in-Done.is c.follow-followed.ensures)),
-      tt,
-    )
+returns-in-Done c = (
+  λ states len.
+      act-found _ _ _ _ _ _ _ c.in-Set.is
+      (act-set _ _ _ _ _ _ (followed_done _ _ _ c.in-Done.is c.follow-followed.ensures)),
+  tt,
+)
 
 pub returns-in-Refused : goal.returns-in-Refused
-returns-in-Refused c =
-    (
-      λ states len.
-          act-found _ _ _ _ _ _ _ c.in-Set.is
-          (act_set_refused _ _ _ _ _ _ (followed_refused _ _ _ _ c.in-Refused.is c.follow-followed.ensures)),
-      tt,
-    )
+returns-in-Refused c = (
+  λ states len.
+      act-found _ _ _ _ _ _ _ c.in-Set.is
+      (act_set_refused _ _ _ _ _ _ (followed_refused _ _ _ _ c.in-Refused.is c.follow-followed.ensures)),
+  tt,
+)
 
 pub returns-in-Remember : goal.returns-in-Remember
 returns-in-Remember c = (

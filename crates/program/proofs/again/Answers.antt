@@ -1,6 +1,5 @@
 -- `program::again` meets its contract. Assumes nothing.
 use mathlib.Core.Path.{sym, ap}
-use borrow.Author.Rules.{rules}
 use Rattle.program.specs.Answers.{decoded}
 use Rattle.program.proofs.again.Goals as goal
 

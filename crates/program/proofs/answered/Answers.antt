@@ -1,6 +1,5 @@
 -- `program::answered` meets its contract. Assumes nothing.
 use mathlib.Core.Path.{sym, ap}
-use borrow.Author.Rules.{rules}
 use Rattle.state.specs.declared.Status.{Status}
 use Rattle.state.specs.Answers.{told_by, next_in}
 use Rattle.program.proofs.answered.Goals as goal

@@ -1,6 +1,5 @@
 -- `program::done` meets its contract. Assumes nothing.
 use mathlib.Core.Path.{ap}
-use borrow.Author.Rules.{rules}
 use Rattle.state.specs.declared.State.{State}
 use Rattle.program.specs.Answers.{finished}
 use Rattle.program.proofs.Loop.{put_state}

@@ -1,6 +1,5 @@
 -- `program::follow` meets its contract. Assumes nothing.
 use mathlib.Core.Path.{refl}
-use borrow.Author.Rules.{rules}
 use Rattle.program.specs.Rule.{follow}
 use Rattle.program.proofs.Following.{follow-found}
 use Rattle.program.proofs.follow.Goals as goal

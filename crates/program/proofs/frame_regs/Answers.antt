@@ -1,5 +1,4 @@
 -- `program::frame_regs` meets its contract. Assumes nothing.
-use borrow.Author.Rules.{rules}
 use Rattle.program.proofs.Following.{followed_done, followed_refused, frame_on, frame_refused}
 use Rattle.program.proofs.frame_regs.Goals as goal
 

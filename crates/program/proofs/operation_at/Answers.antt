@@ -1,7 +1,6 @@
 -- `program::operation_at` meets its contract. Assumes nothing.
 use mathlib.Core.Path.{refl, ◌∙◌}
 use native.Mathlib.Omega.{arith}
-use borrow.Author.Rules.{rules}
 use Rattle.program.proofs.Near.{near_later, near_byte, near_whole, near_number}
 use Rattle.program.proofs.operation_at.Goals as goal
 

@@ -1,6 +1,5 @@
 -- `program::recall` meets its contract. Assumes nothing.
 use mathlib.Core.Path.{◌∙◌}
-use borrow.Author.Rules.{rules}
 use Rattle.program.proofs.Loop.{recall_none}
 use Rattle.program.proofs.recall.Goals as goal
 

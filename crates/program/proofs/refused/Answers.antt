@@ -1,7 +1,6 @@
 -- `program::refused` meets its contract. Assumes nothing.
 use mathlib.Core.Path.{sym, ◌∙◌, ap}
 use mathlib.Core.Bool.{Bool, true, false}
-use borrow.Author.Rules.{rules}
 use Rattle.state.specs.declared.State.{State}
 use Rattle.program.specs.Answers.{stopped}
 use Rattle.program.proofs.Loop.{put_state}

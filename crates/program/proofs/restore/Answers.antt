@@ -1,6 +1,5 @@
 -- `program::restore` meets its contract. Assumes nothing.
 use mathlib.Core.Path.{◌∙◌}
-use borrow.Author.Rules.{rules}
 use Rattle.state.specs.Restore.{restore}
 use Rattle.state.proofs.Restore.{next-told}
 use Rattle.program.proofs.restore.Goals as goal

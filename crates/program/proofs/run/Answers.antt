@@ -1,7 +1,5 @@
 -- `program::run` meets its contract. Assumes nothing.
 use mathlib.Core.Path.{sym, ◌∙◌, ap}
-use borrow.Author.Tests.{not-true, not-false}
-use borrow.Author.Rules.{rules}
 use Rattle.program.specs.Answers.{ended}
 use Rattle.program.proofs.Loop.{ended_refused}
 use Rattle.program.proofs.Public.{run_closed, run_unknown, run-opened}

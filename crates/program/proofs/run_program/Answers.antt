@@ -1,6 +1,5 @@
 -- `program::run_program` meets its contract. Assumes nothing.
 use mathlib.Core.Path.{ap}
-use borrow.Author.Rules.{rules}
 use Rattle.program.specs.declared.Ended.{Ended}
 use Rattle.program.specs.Answers.{Runs}
 use Rattle.program.proofs.run_program.Goals as goal

@@ -1,6 +1,5 @@
 -- `program::save` meets its contract. Assumes nothing.
 use mathlib.Core.Path.{◌∙◌}
-use borrow.Author.Rules.{rules}
 use Rattle.state.specs.Save.{save}
 use Rattle.state.proofs.Restore.{next-told}
 use Rattle.program.proofs.save.Goals as goal

@@ -1,7 +1,6 @@
 -- `rows::checked` meets its contract. Assumes nothing.
 use mathlib.Core.Path.{sym, ◌∙◌}
 use Rattle.rows.specs.Row.{checked}
-use borrow.Author.Rules.{rules}
 use Rattle.rows.proofs.checked.Goals as goal
 
 pub returns-then-is_valid : goal.returns-then-is_valid

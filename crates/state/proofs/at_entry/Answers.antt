@@ -1,5 +1,4 @@
 -- `state::at_entry` meets its contract: an architecture has its return address in a slot at entry, or has not. Assumes nothing.
-use borrow.Author.Rules.{rules}
 use Rattle.state.proofs.Entry.{entry-saved, entry-bare}
 use Rattle.state.proofs.at_entry.Goals as goal
 

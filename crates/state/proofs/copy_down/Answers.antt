@@ -1,8 +1,6 @@
 -- `state::copy_down` meets its contract. The invariant: what is left to copy from k on gives the whole copy. Assumes nothing.
-use mathlib.Core.Path.{◌≡◌, refl, sym, ◌∙◌}
-use Prim.Native.Nat.{◌-◌, ◌≤◌}
+use mathlib.Core.Path.{refl, sym, ◌∙◌}
 use native.Mathlib.Omega.{arith}
-use Rattle.state.specs.Restore.{copy_down}
 use Rattle.state.proofs.Restore.{copy_one, copy_over}
 use Rattle.state.proofs.copy_down.Goals as goal
 

@@ -2,7 +2,6 @@
 use mathlib.Core.Path.{sym, ◌∙◌}
 use Prim.Native.Nat.{◌<◌}
 use native.Mathlib.Omega.{arith}
-use borrow.Author.Rules.{rules}
 use Rattle.state.proofs.Pairs.{place-low}
 use Rattle.state.proofs.Restore.{without_at_lem, without_none}
 use Rattle.state.proofs.drop_in.Goals as goal

@@ -1,6 +1,5 @@
 -- `state::restore_in` meets its contract: each return is a law of `restore`. Assumes nothing.
 use mathlib.Core.Path.{◌∙◌, ap}
-use borrow.Author.Rules.{rules}
 use Rattle.state.specs.Answers.{next}
 use Rattle.state.proofs.Restore.{restore-overfull, restore_other, restore-bare, restore-saved, return_small, slot_small, saved_again}
 use Rattle.state.proofs.restore_in.Goals as goal

@@ -2,7 +2,6 @@
 use mathlib.Core.Path.{sym, ◌∙◌, ap}
 use Prim.Native.Nat.{◌<◌}
 use native.Mathlib.Omega.{arith}
-use borrow.Author.Rules.{rules}
 use Rattle.state.specs.Answers.{next}
 use Rattle.state.proofs.Pairs.{place-low}
 use Rattle.state.proofs.Save.{save-overfull, save_slot_0, save_slot_large, save_reg_large, save_again, save_full, save_new}

@@ -1,9 +1,6 @@
 -- `state::seek` meets its contract. The invariant: what is found from place 0 on is what is found from i on. Assumes nothing.
-use mathlib.Core.Path.{◌≡◌, sym, ◌∙◌}
-use Prim.Native.Nat.{◌-◌, ◌≤◌}
+use mathlib.Core.Path.{sym, ◌∙◌}
 use native.Mathlib.Omega.{arith}
-use borrow.Author.Rules.{rules}
-use Rattle.state.specs.Pairs.{place_from}
 use Rattle.state.proofs.Pairs.{place-begin, place_here, place-on, place_over}
 use Rattle.state.proofs.seek.Goals as goal
 
@@ -27,12 +24,11 @@ pub loop-i-smaller : goal.loop-i-smaller
 loop-i-smaller c = omega arith
 
 pub loop-i-preserved : goal.loop-i-preserved
-loop-i-preserved c =
-    (
-      omega arith,
-      c.loop-i.invariant.1 ∙
-          place-on _ _ _ _ c.loop-i-test.true (λ e. c.if-wide-reg.false (c.wide.ensures ∙ e)),
-    )
+loop-i-preserved c = (
+  omega arith,
+  c.loop-i.invariant.1 ∙
+      place-on _ _ _ _ c.loop-i-test.true (λ e. c.if-wide-reg.false (c.wide.ensures ∙ e)),
+)
 
 pub returns : goal.returns
 returns c = sym (c.loop-i.invariant.1 ∙ place_over _ _ _ _ c.loop-i-test.false)

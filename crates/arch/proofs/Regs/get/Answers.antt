@@ -1,8 +1,6 @@
 -- `arch::Regs::get` meets its contract. Assumes nothing.
 use mathlib.Core.Path.{sym, ◌∙◌, ap}
 use native.Mathlib.Omega.{arith}
-use borrow.Author.Rules.{rules}
-use borrow.Author.Tests.{not-true, not-false}
 use Rattle.arch.specs.Answers.{columned}
 use Rattle.arch.specs.Public.{get}
 use Rattle.arch.proofs.Arch.{fits}

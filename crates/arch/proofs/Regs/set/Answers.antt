@@ -1,8 +1,6 @@
 -- `arch::Regs::set` meets its contract. Assumes nothing.
 use mathlib.Core.Path.{sym, ◌∙◌, ap}
 use native.Mathlib.Omega.{arith}
-use borrow.Author.Rules.{rules}
-use borrow.Author.Tests.{not-true, not-false}
 use Rattle.arch.specs.Answers.{columned, next}
 use Rattle.arch.specs.Public.{set}
 use Rattle.arch.proofs.Arch.{fits}

@@ -1,8 +1,6 @@
 -- `arch::Regs::set_sp` meets its contract. Assumes nothing.
 use mathlib.Core.Path.{sym, ◌∙◌, ap}
 use native.Mathlib.Omega.{arith}
-use borrow.Author.Rules.{rules}
-use borrow.Author.Tests.{not-true, not-false}
 use Prim.Native.Nat.{ℕ}
 use lib.ListN.{set}
 use Rattle.failure.specs.Outcome.{Answer}

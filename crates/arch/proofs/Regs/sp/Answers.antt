@@ -3,8 +3,6 @@ use mathlib.Core.Path.{sym, ◌∙◌, ap}
 use Prim.Native.Nat.{ℕ}
 use native.Mathlib.Omega.{arith}
 use lib.ListN.{get_or}
-use borrow.Author.Rules.{rules}
-use borrow.Author.Tests.{not-true, not-false}
 use Rattle.failure.specs.Outcome.{Answer}
 use Rattle.arch.specs.Public.{sp}
 use Rattle.arch.proofs.Known.{unknown_refused, known_goes_on}

@@ -1,7 +1,5 @@
 -- `frame::apply::apply_at` meets its contract. Assumes nothing.
 use mathlib.Core.Path.{sym, ◌∙◌, ap}
-use borrow.Author.Rules.{rules}
-use borrow.Author.Tests.{not-false}
 use Rattle.failure.specs.Outcome.{Answer}
 use Rattle.arch.proofs.File.{get_at}
 use Rattle.arch.proofs.InPlace.{place_done}

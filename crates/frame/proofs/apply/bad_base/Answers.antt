@@ -1,5 +1,4 @@
 -- `frame::apply::bad_base` meets its contract. Assumes nothing.
-use borrow.Author.Rules.{rules}
 use Rattle.frame.proofs.apply.bad_base.Goals as goal
 
 pub returns-then-cfa_fp : goal.returns-then-cfa_fp

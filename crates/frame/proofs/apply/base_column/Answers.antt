@@ -2,7 +2,6 @@
 use mathlib.Core.Path.{ap}
 use Prim.Native.Nat.{ℕ}
 use lib.ListN.{get_or}
-use borrow.Author.Rules.{rules}
 use Rattle.frame.proofs.apply.base_column.Goals as goal
 
 pub returns-then-cfa_fp : goal.returns-then-cfa_fp

@@ -1,19 +1,10 @@
 -- `frame::apply::pairs_near` meets its contract: each turn restores one pair. Assumes nothing.
-use mathlib.Core.Path.{sym, ◌∙◌, ap}
 use Prim.Native.Nat.{◌-◌}
-use native.Mathlib.Omega.{arith}
-use borrow.Author.Rules.{rules}
 use Rattle.mem.specs.Memory.{lent}
 use Rattle.arch.specs.Arch.{numbers}
-use Rattle.arch.specs.Answers.{columned}
-use Rattle.arch.proofs.Arch.{fits}
-use Rattle.arch.proofs.File.{column_fits}
 use Rattle.frame.specs.Layout.{pairs_at}
 use Rattle.frame.specs.Apply.{restore_pairs}
-use Rattle.frame.specs.Near.{slot_in}
-use Rattle.frame.proofs.Slot.{cell_at}
-use Rattle.frame.proofs.InStack.{near_loads}
-use Rattle.frame.proofs.Turn.{Turn, turn_begin, turn_over, turn_set}
+use Rattle.frame.proofs.Turn.{Turn}
 use Rattle.frame.proofs.apply.pairs_near.Given as goal
 
 abbrev pub invariant-loop-i : goal.invariant-loop-i
@@ -24,4 +15,3 @@ invariant-loop-i l =
 
 abbrev pub decreases-loop-i : goal.decreases-loop-i
 decreases-loop-i l = l.n - l.i
-

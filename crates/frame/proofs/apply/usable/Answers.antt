@@ -1,7 +1,6 @@
 -- `frame::apply::usable` meets its contract. Assumes nothing.
 use mathlib.Core.Path.{sym, ◌∙◌, ap}
 use native.Mathlib.Omega.{arith}
-use borrow.Author.Rules.{rules}
 use Rattle.arch.specs.Answers.{columned}
 use Rattle.frame.proofs.InStack.{no, no_refusal}
 use Rattle.frame.proofs.apply.usable.Goals as goal

@@ -3,7 +3,6 @@ use mathlib.Core.Path.{◌∙◌, ap}
 use native.Mathlib.Omega.{arith}
 use Rattle.failure.specs.Outcome.{Answer}
 use lib.Dec.{lit<, lit≤}
-use borrow.Author.Rules.{rules}
 use Rattle.frame.proofs.Ra.{fp-known}
 use Rattle.frame.proofs.InStack.{near_loads}
 use Rattle.frame.proofs.Stepped.{fp-stored, fp-kept}

@@ -2,7 +2,6 @@
 use mathlib.Core.Path.{◌∙◌, subst}
 use Prim.Native.Nat.{ℕ}
 use native.Mathlib.Omega.{arith}
-use borrow.Author.Rules.{rules}
 use Rattle.frame.specs.Near.{Near}
 use Rattle.frame.proofs.InStack.{no}
 use Rattle.frame.proofs.step.is_near.Goals as goal

@@ -1,6 +1,5 @@
 -- `frame::step::return_address` meets its contract. Assumes nothing.
 use mathlib.Core.Path.{sym, ◌∙◌, ap}
-use borrow.Author.Rules.{rules}
 use Rattle.frame.specs.Apply.{load_slot}
 use Rattle.frame.proofs.Stepped.{address_register, address-slot}
 use Rattle.frame.proofs.step.return_address.Goals as goal

@@ -2,7 +2,6 @@
 use mathlib.Core.Path.{refl, sym, ◌∙◌, ap, subst}
 use mathlib.Core.List.{List}
 use Prim.Native.Nat.{ℕ}
-use borrow.Author.Rules.{rules}
 use Rattle.failure.specs.Outcome.{Outcome}
 use Rattle.arch.specs.Answers.{valued}
 use Rattle.frame.specs.Answers.{Partly}

@@ -1,6 +1,5 @@
 -- `frame::step::set_frame` meets its contract. Assumes nothing.
 use mathlib.Core.Path.{refl, sym, ◌∙◌, ap}
-use borrow.Author.Rules.{rules}
 use Rattle.failure.specs.Outcome.{Answer}
 use Rattle.arch.specs.Answers.{valued}
 use Rattle.frame.proofs.Ra.{fp-known}

@@ -1,6 +1,5 @@
 -- `frame::step::set_return` meets its contract. Assumes nothing.
 use mathlib.Core.Path.{sym, ◌∙◌, ap}
-use borrow.Author.Rules.{rules}
 use Rattle.failure.specs.Outcome.{Answer}
 use Rattle.frame.proofs.Stepped.{return_set}
 use Rattle.frame.proofs.step.set_return.Goals as goal

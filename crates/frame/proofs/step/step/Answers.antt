@@ -1,7 +1,5 @@
 -- `frame::step::step` meets its contract. Assumes nothing.
 use mathlib.Core.Path.{sym, ◌∙◌, ap}
-use borrow.Author.Tests.{not-true, not-false}
-use borrow.Author.Rules.{rules}
 use Rattle.arch.specs.Answers.{next}
 use Rattle.frame.specs.Public.{step}
 use Rattle.frame.proofs.Opened.{closed_refused, unknown_refused, step-passes}

@@ -1,6 +1,4 @@
 -- `frame::step::step_at` meets its contract. Assumes nothing.
-use borrow.Author.Rules.{rules}
-use borrow.Author.Tests.{not-false}
 use Rattle.arch.proofs.InPlace.{place_done}
 use Rattle.frame.proofs.Saves.{saves-few}
 use Rattle.frame.proofs.step.step_at.Goals as goal

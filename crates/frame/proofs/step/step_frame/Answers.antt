@@ -1,5 +1,4 @@
 -- `frame::step::step_frame` meets its contract. Assumes nothing.
-use borrow.Author.Rules.{rules}
 use Rattle.arch.proofs.InPlace.{next_in_place}
 use Rattle.frame.proofs.step.step_frame.Goals as goal
 

@@ -3,7 +3,6 @@ use mathlib.Core.Path.{sym, ◌∙◌, ap, subst}
 use mathlib.Core.List.{List}
 use Prim.Native.Nat.{ℕ}
 use lib.ListN.{get_or}
-use borrow.Author.Rules.{rules}
 use Rattle.failure.specs.Outcome.{Outcome}
 use Rattle.arch.specs.Answers.{valued, InPlace}
 use Rattle.arch.proofs.InPlace.{place_refused}

@@ -1,5 +1,4 @@
 -- `frame::step::step_near` meets its contract. Assumes nothing.
-use borrow.Author.Rules.{rules}
 use Rattle.frame.proofs.InStack.{near_less, deepest_bounds}
 use Rattle.frame.proofs.Stepped.{step-stored}
 use Rattle.frame.proofs.step.step_near.Goals as goal

@@ -1,6 +1,5 @@
 -- `frame::step::step_plain` meets its contract. Assumes nothing.
 use mathlib.Core.Path.{sym, ◌∙◌}
-use borrow.Author.Rules.{rules}
 use Rattle.arch.proofs.File.{get_at}
 use Rattle.arch.proofs.InPlace.{place_done, place_refused}
 use Rattle.frame.proofs.Partly.{done_partly, refused_partly}

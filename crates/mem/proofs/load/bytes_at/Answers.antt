@@ -1,5 +1,5 @@
 -- `mem::load::bytes_at` meets its contract: each arm lends the part at the place that `place_of` names. Assumes nothing.
-use Rattle.std.proofs.Common.{sym, ap, ◌∙◌, arith, rules}
+use Rattle.std.proofs.Common.{sym, ap, ◌∙◌, arith}
 use Rattle.mem.specs.Place.{placed}
 use Rattle.mem.proofs.Place.{place_found}
 use Rattle.mem.proofs.Part.{lends_part}

@@ -1,5 +1,5 @@
 -- `mem::load::le1` meets its contract. Assumes nothing.
-use Rattle.std.proofs.Common.{◌≡◌, length, arith, rules}
+use Rattle.std.proofs.Common.{◌≡◌, length, arith}
 use Rattle.mem.proofs.Word.{from_place, from_end}
 use Rattle.mem.proofs.load.le1.Goals as goal
 

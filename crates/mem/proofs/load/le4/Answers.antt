@@ -1,5 +1,5 @@
 -- `mem::load::le4` meets its contract, byte by byte. Assumes nothing.
-use Rattle.std.proofs.Common.{◌≡◌, length, arith, rules}
+use Rattle.std.proofs.Common.{◌≡◌, length, arith}
 use Rattle.mem.proofs.Word.{from_place, from_end}
 use Rattle.mem.proofs.load.le4.Goals as goal
 

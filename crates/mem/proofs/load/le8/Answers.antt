@@ -1,5 +1,5 @@
 -- `mem::load::le8` meets its contract, word by word. Assumes nothing.
-use Rattle.std.proofs.Common.{sym, ap, ◌∙◌, arith, take_all, rules}
+use Rattle.std.proofs.Common.{sym, ap, ◌∙◌, arith, take_all}
 use Rattle.mem.specs.Word.{little_endian}
 use Rattle.mem.proofs.Word.{joined}
 use Rattle.mem.proofs.load.le8.Goals as goal

@@ -1,5 +1,5 @@
 -- `mem::load::load_u32` meets its contract. Assumes nothing.
-use Rattle.std.proofs.Common.{lit<, rules}
+use Rattle.std.proofs.Common.{lit<}
 use Rattle.mem.proofs.Loaded.{loads_value, loads_outside}
 use Rattle.mem.proofs.load.load_u32.Goals as goal
 

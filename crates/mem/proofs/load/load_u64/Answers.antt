@@ -1,5 +1,5 @@
 -- `mem::load::load_u64` meets its contract. Assumes nothing.
-use Rattle.std.proofs.Common.{lit<, rules}
+use Rattle.std.proofs.Common.{lit<}
 use Rattle.mem.proofs.Loaded.{loads_word}
 use Rattle.mem.proofs.load.load_u64.Goals as goal
 

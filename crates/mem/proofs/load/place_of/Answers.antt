@@ -1,5 +1,5 @@
 -- `mem::load::place_of` meets its contract: each test says which case of `place_of` holds. Assumes nothing.
-use Rattle.std.proofs.Common.{sym, ◌∙◌, rules}
+use Rattle.std.proofs.Common.{sym, ◌∙◌}
 use Rattle.mem.specs.Place.{place_of}
 use Rattle.mem.proofs.Place.{holds_range}
 use Rattle.mem.proofs.load.place_of.Goals as goal

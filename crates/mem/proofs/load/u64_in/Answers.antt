@@ -1,5 +1,5 @@
 -- `mem::load::u64_in` meets its contract. Assumes nothing.
-use Rattle.std.proofs.Common.{ap, rules, eq-eqb, ne_eqb}
+use Rattle.std.proofs.Common.{ap, eq-eqb, ne_eqb}
 use Rattle.failure.specs.Outcome.{Answer}
 use Rattle.mem.specs.Word.{word_in}
 use Rattle.mem.proofs.load.u64_in.Goals as goal

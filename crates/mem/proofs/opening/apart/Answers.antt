@@ -1,5 +1,5 @@
 -- `mem::opening::apart` meets its contract. Assumes nothing.
-use Rattle.std.proofs.Common.{◌+◌, ◌-◌, arith, rules, eq-eqb, ne_eqb}
+use Rattle.std.proofs.Common.{◌+◌, ◌-◌, arith, eq-eqb, ne_eqb}
 use mathlib.Core.Bool.{or-true, or-false}
 use borrow.Author.Tests.{lt-leb}
 use Rattle.mem.specs.Opening.{apart}

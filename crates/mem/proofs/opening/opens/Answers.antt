@@ -1,7 +1,6 @@
 -- `mem::opening::opens` meets its contract. Assumes nothing.
-use Rattle.std.proofs.Common.{sym, ◌∙◌, rules}
+use Rattle.std.proofs.Common.{sym, ◌∙◌}
 use mathlib.Core.Bool.{and-true, and-false}
-use borrow.Author.Tests.{not-true, not-false}
 use Rattle.mem.specs.Opening.{opens}
 use Rattle.mem.proofs.opening.opens.Goals as goal
 

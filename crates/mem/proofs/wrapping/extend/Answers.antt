@@ -1,5 +1,5 @@
 -- `mem::wrapping::extend` meets its contract. Assumes nothing.
-use Rattle.std.proofs.Common.{arith, rules}
+use Rattle.std.proofs.Common.{arith}
 use Rattle.mem.proofs.Sums.{signed_made}
 use Rattle.mem.proofs.wrapping.extend.Goals as goal
 

@@ -1,6 +1,5 @@
 -- `program::decode::completed` meets its contract. Assumes nothing.
 use mathlib.Core.Path.{sym, ap}
-use borrow.Author.Rules.{rules}
 use Rattle.program.specs.declared.decode.Incomplete.{Incomplete}
 use Rattle.program.specs.Operation as Operation
 use Rattle.program.proofs.decode.completed.Goals as goal

@@ -1,7 +1,6 @@
 -- `program::decode::decode` meets its contract. Assumes nothing.
 use mathlib.Core.Path.{refl, sym, ◌∙◌}
 use native.Mathlib.Omega.{arith}
-use borrow.Author.Rules.{rules}
 use Rattle.leb.specs.declared.Byte.TheVariants as byte
 use Rattle.leb.proofs.Reader.{byte-read}
 use Rattle.program.proofs.Decoding.{decode-byte, decode_refused}

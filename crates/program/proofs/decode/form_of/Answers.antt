@@ -1,7 +1,6 @@
 -- `program::decode::form_of` meets its contract. Assumes nothing.
 use mathlib.Core.Path.{sym, ap}
 use native.Mathlib.Omega.{arith}
-use borrow.Author.Rules.{rules}
 use Rattle.program.specs.Operation.{form_of}
 use Rattle.program.proofs.Form.{form_advance, form_units, form_save, form_restore}
 use Rattle.program.proofs.decode.form_of.Goals as goal

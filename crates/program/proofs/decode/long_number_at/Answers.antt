@@ -1,7 +1,6 @@
 -- `program::decode::long_number_at` meets its contract: a number that is read fits 32 bits. Assumes nothing.
 use mathlib.Core.Path.{sym, ◌∙◌, ap}
 use native.Mathlib.Omega.{arith}
-use borrow.Author.Rules.{rules}
 use Rattle.leb.specs.Reader as Reader
 use Rattle.leb.specs.Reader.{numbered}
 use Rattle.leb.proofs.Numbers.{small}

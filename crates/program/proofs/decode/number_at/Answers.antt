@@ -1,7 +1,6 @@
 -- `program::decode::number_at` meets its contract. Assumes nothing.
 use mathlib.Core.Path.{sym, ◌∙◌}
 use native.Mathlib.Omega.{arith}
-use borrow.Author.Rules.{rules}
 use Rattle.leb.proofs.Reader.{byte-read}
 use Rattle.program.proofs.Decoding.{short-number}
 use Rattle.program.proofs.decode.number_at.Goals as goal

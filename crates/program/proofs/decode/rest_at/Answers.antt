@@ -1,6 +1,5 @@
 -- `program::decode::rest_at` meets its contract. Assumes nothing.
 use mathlib.Core.Path.{sym, ◌∙◌, ap}
-use borrow.Author.Rules.{rules}
 use Rattle.program.specs.Answers.{told}
 use Rattle.program.proofs.Decoding.{rest_whole, rest_unknown, rest_number, rest_number_refused, rest_pair, rest_slot_refused, rest_reg_refused}
 use Rattle.program.proofs.decode.rest_at.Goals as goal

@@ -2,7 +2,6 @@
 use mathlib.Core.Path.{sym, ◌∙◌, ap}
 use Rattle.mem.specs.Word.{loaded}
 use Rattle.rows.proofs.Entries.{entry_first, entry-second, entry_third, entry_whole}
-use borrow.Author.Rules.{rules}
 use Rattle.rows.proofs.handler.entry_at.Goals as goal
 
 pub returns-in_default : goal.returns-in_default

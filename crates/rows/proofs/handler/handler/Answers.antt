@@ -1,9 +1,7 @@
 -- `rows::handler::handler` meets its contract. Assumes nothing.
 use mathlib.Core.Path.{sym, ◌∙◌}
-use borrow.Author.Tests.{not-true, not-false}
 use Rattle.rows.specs.Handler.{handler_in}
 use Rattle.rows.proofs.Held.{handler-lent}
-use borrow.Author.Rules.{rules}
 use Rattle.rows.proofs.handler.handler.Goals as goal
 
 pub returns-then-not-opens : goal.returns-then-not-opens

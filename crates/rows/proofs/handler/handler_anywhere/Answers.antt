@@ -1,27 +1,24 @@
 -- `rows::handler::handler_anywhere` meets its contract. Each turn halves the rows that are left. Assumes nothing.
 use mathlib.Core.Path.{sym, ◌∙◌, ap}
 use Rattle.mem.specs.Word.{loaded}
-use Prim.Native.Nat.{◌-◌, ◌^◌, ◌<◌}
+use Prim.Native.Nat.{◌^◌}
 use native.Mathlib.Omega.{arith}
 use mathlib.Core.Path.{subst}
-use Rattle.mem.specs.Memory.{lent}
 use Rattle.mem.specs.Word.{Below}
 use Rattle.mem.specs.declared.load.Word.{Word}
 use Rattle.rows.specs.Answers.{entry}
 use Rattle.rows.specs.Handler.{row}
-use Rattle.rows.proofs.Halving.{Left, count_refused, begin, over, turn_refused, turn_found, turn_above, turn_below}
-use borrow.Author.Rules.{rules}
+use Rattle.rows.proofs.Halving.{count_refused, begin, over, turn_refused, turn_found, turn_above, turn_below}
 use Rattle.rows.proofs.handler.handler_anywhere.Goals as goal
 
 pub returns-in_default : goal.returns-in_default
 returns-in_default c = count_refused _ _ _ _ (sym (ap loaded c.in_default.is) ∙ c.load_u32.ensures.outcome)
 
 pub loop-lo-init : goal.loop-lo-init
-loop-lo-init c =
-    (
-      begin _ _ _ _ (sym (ap loaded c.in-Value.is) ∙ c.load_u32.ensures.outcome),
-      subst (λ (w : Word). Below (256 ^ 4) w) c.in-Value.is c.load_u32.ensures.fits,
-    )
+loop-lo-init c = (
+  begin _ _ _ _ (sym (ap loaded c.in-Value.is) ∙ c.load_u32.ensures.outcome),
+  subst (λ (w : Word). Below (256 ^ 4) w) c.in-Value.is c.load_u32.ensures.fits,
+)
 
 pub entry_at-requires : goal.entry_at-requires
 entry_at-requires c =

@@ -1,7 +1,6 @@
 -- `rows::handler::handler_at` meets its contract. Assumes nothing.
 use mathlib.Core.Path.{◌∙◌}
 use Rattle.rows.proofs.Held.{handler-lent}
-use borrow.Author.Rules.{rules}
 use Rattle.rows.proofs.handler.handler_at.Goals as goal
 
 pub handler_in-requires : goal.handler_in-requires

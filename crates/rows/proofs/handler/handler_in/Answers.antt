@@ -1,12 +1,11 @@
 -- `rows::handler::handler_in` meets its contract. Each turn halves the rows that are left. Assumes nothing.
 use mathlib.Core.Bool.{true, false}
-use mathlib.Core.Logic.{⊎_elim}
 use native.Mathlib.Omega.{arith}
 use lib.Dec.{ltb}
-use Rattle.rows.proofs.Held.{LeftIn, begin_in, room_in, row-middle, turn_found_in, turn_in, over_in, test_small}
-use borrow.Author.Rules.{rules}
-use borrow.Author.Tests.{not-true, not-false}
+use Rattle.rows.proofs.Held.{begin_in, room_in, row-middle, turn_found_in, turn_in, over_in, test_small}
+use borrow.Author.Tests.{lt-ltb, le-ltb}
 use Rattle.rows.proofs.handler.handler_in.Goals as goal
+use Rattle.rows.proofs.handler.handler_in.Goals.{then-not-down, else-not-down}
 
 pub overflow_sub-start : goal.overflow_sub-start
 overflow_sub-start c = omega (arith, c.requires.whole.above)
@@ -62,10 +61,12 @@ loop-n-smaller c =
 
 pub loop-n-preserved : goal.loop-n-preserved
 loop-n-preserved c =
-    ⊎_elim
-    (λ w. turn_in _ _ _ _ _ _ _ c.loop-n.invariant c.loop-n-test.true _ c.u32_at-offset.ensures.0 c.if-offset-ret.false false (not-true _ w.0.taken) _ w.1)
-    (λ w. turn_in _ _ _ _ _ _ _ c.loop-n.invariant c.loop-n-test.true _ c.u32_at-offset.ensures.0 c.if-offset-ret.false true (not-false _ w.0.left) _ w.1)
-    c.if-not-down.branch
+    elim c.if-not-down.branch [
+      | then-not-down w ↦
+          turn_in _ _ _ _ _ _ _ c.loop-n.invariant c.loop-n-test.true _ c.u32_at-offset.ensures.0 c.if-offset-ret.false false (le-ltb _ _ w.if-not-down.true) _ w.at-is
+      | else-not-down w ↦
+          turn_in _ _ _ _ _ _ _ c.loop-n.invariant c.loop-n-test.true _ c.u32_at-offset.ensures.0 c.if-offset-ret.false true (lt-ltb _ _ w.if-not-down.false) _ w.at-is
+    ]
 
 pub returns : goal.returns
 returns c = over_in _ _ _ _ _ _ _ c.loop-n.invariant c.loop-n-test.false

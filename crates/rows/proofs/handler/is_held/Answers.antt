@@ -1,7 +1,6 @@
 -- `rows::handler::is_held` meets its contract. Assumes nothing.
 use native.Mathlib.Omega.{arith}
 use Rattle.rows.proofs.Held.{never, held}
-use borrow.Author.Rules.{rules}
 use Rattle.rows.proofs.handler.is_held.Goals as goal
 
 pub returns-then-base-section : goal.returns-then-base-section

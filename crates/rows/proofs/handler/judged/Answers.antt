@@ -3,7 +3,6 @@ use mathlib.Core.Path.{sym, ◌∙◌, ap}
 use Rattle.rows.specs.Answers.{breaks}
 use Rattle.rows.specs.Handler.{row}
 use Rattle.rows.proofs.Entries.{judged_left_refused, judged_left, judged_right_refused, judged_right, judged-whole}
-use borrow.Author.Rules.{rules}
 use Rattle.rows.proofs.handler.judged.Goals as goal
 
 pub returns-in-Outside : goal.returns-in-Outside

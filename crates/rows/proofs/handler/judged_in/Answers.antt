@@ -4,7 +4,6 @@ use Rattle.failure.specs.Outcome.{Answer}
 use Rattle.rows.specs.Handler.{row}
 use Rattle.rows.proofs.Entries.{judged_left, judged_right, judged-whole}
 use Rattle.rows.proofs.Held.{judged_there, here, row_here}
-use borrow.Author.Rules.{rules}
 use Rattle.rows.proofs.handler.judged_in.Goals as goal
 
 pub returns-then-left_breaks_in : goal.returns-then-left_breaks_in

@@ -4,7 +4,6 @@ use borrow.Author.Tests.{le-leb, lt-leb}
 use Rattle.failure.specs.Outcome.{Answer}
 use Rattle.rows.specs.Answers.{entry}
 use Rattle.rows.proofs.Entries.{left_none, left_refused, left_seen}
-use borrow.Author.Rules.{rules}
 use Rattle.rows.proofs.handler.left_breaks.Goals as goal
 
 pub returns-then-i-eq0 : goal.returns-then-i-eq0

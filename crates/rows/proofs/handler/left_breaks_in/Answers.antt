@@ -4,7 +4,6 @@ use Prim.Native.Nat.{◌+◌, ◌-◌}
 use native.Mathlib.Omega.{arith}
 use lib.Dec.{eqb}
 use Rattle.rows.proofs.Held.{left_beside, left_said, test_small}
-use borrow.Author.Rules.{rules}
 use Rattle.rows.proofs.handler.left_breaks_in.Goals as goal
 
 pub overflow_mul-first : goal.overflow_mul-first

@@ -4,7 +4,6 @@ use borrow.Author.Tests.{le-leb, lt-leb}
 use Rattle.failure.specs.Outcome.{Answer}
 use Rattle.rows.specs.Answers.{entry}
 use Rattle.rows.proofs.Entries.{right_none, right_refused, right_seen}
-use borrow.Author.Rules.{rules}
 use Rattle.rows.proofs.handler.right_breaks.Goals as goal
 
 pub returns-in_default : goal.returns-in_default

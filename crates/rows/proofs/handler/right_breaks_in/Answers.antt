@@ -4,7 +4,6 @@ use Prim.Native.Nat.{◌+◌, ◌-◌, ◌*◌}
 use native.Mathlib.Omega.{arith}
 use lib.Dec.{eqb}
 use Rattle.rows.proofs.Held.{right_beside, right_said, test_small}
-use borrow.Author.Rules.{rules}
 use Rattle.rows.proofs.handler.right_breaks_in.Goals as goal
 
 pub overflow_mul-last-2 : goal.overflow_mul-last-2

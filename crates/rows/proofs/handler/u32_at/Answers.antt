@@ -1,7 +1,6 @@
 -- `rows::handler::u32_at` meets its contract. Assumes nothing.
 use native.Mathlib.Omega.{arith}
 use Rattle.rows.proofs.Held.{four}
-use borrow.Author.Rules.{rules}
 use Rattle.rows.proofs.handler.u32_at.Goals as goal
 
 pub returns : goal.returns

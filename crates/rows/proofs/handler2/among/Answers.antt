@@ -1,13 +1,12 @@
 -- `rows::handler2::among` meets its contract. Each turn passes a row. Assumes nothing.
 use mathlib.Core.Path.{refl, sym, ◌∙◌, ap}
 use mathlib.Core.Path.{subst, ◌≡◌}
-use Prim.Native.Nat.{ℕ, suc, ◌-◌, ◌≤◌}
+use Prim.Native.Nat.{ℕ, suc, ◌-◌}
 use native.Mathlib.Omega.{arith}
 use Rattle.mem.specs.Memory.{lent}
 use Rattle.rows.specs.Answers.{after, Within}
 use Rattle.rows.specs.Handler2.{rows_from}
 use Rattle.rows.specs.declared.handler2.Step.{Step}
-use borrow.Author.Rules.{rules}
 use Rattle.rows.proofs.handler2.among.Goals as goal
 
 pub loop-left-init : goal.loop-left-init
@@ -22,7 +21,7 @@ returns-in-Ends c =
     let m = (lent c.args.section.now c.args.section_base c.args.stack.now c.args.stack_base).regions in
     let x = c.args in
     let n : suc (c.loop-left.left - 1) ≡ c.loop-left.left = omega (arith, c.loop-left-test.true) in
-    sym (ap (λ (r : Step). after m x.limit x.ret (c.loop-left.left - 1) r) c.in-Ends.is) ∙ c.next_row.ensures.0
+    sym (ap (λ (r : Step). after m x.limit x.ret (c.loop-left.left - 1) r) c.in-Ends.is) ∙ c.next_row.ensures.result_value
     ∙ ap (λ (k : ℕ). rows_from k m x.limit c.loop-left.pos c.loop-left.at x.ret) n ∙ sym s.0
 
 pub loop-left-smaller : goal.loop-left-smaller
@@ -35,9 +34,9 @@ loop-left-preserved c =
     let x = c.args in
     let n : suc (c.loop-left.left - 1) ≡ c.loop-left.left = omega (arith, c.loop-left-test.true) in (
       s.0 ∙ ap (λ (k : ℕ). rows_from k m x.limit c.loop-left.pos c.loop-left.at x.ret) (sym n)
-          ∙ sym c.next_row.ensures.0
+          ∙ sym c.next_row.ensures.result_value
           ∙ ap (λ (r : Step). after m x.limit x.ret (c.loop-left.left - 1) r) c.in-On.is,
-      subst (λ (r : Step). Within x.ret r) c.in-On.is c.next_row.ensures.1,
+      subst (λ (r : Step). Within x.ret r) c.in-On.is c.next_row.ensures.within,
     )
 
 pub returns : goal.returns

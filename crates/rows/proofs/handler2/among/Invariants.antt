@@ -1,13 +1,8 @@
 -- `rows::handler2::among` meets its contract. Each turn passes a row. Assumes nothing.
-use mathlib.Core.Path.{refl, sym, ◌∙◌, ap}
-use mathlib.Core.Path.{subst, ◌≡◌}
-use Prim.Native.Nat.{ℕ, suc, ◌-◌, ◌≤◌}
-use native.Mathlib.Omega.{arith}
+use mathlib.Core.Path.{◌≡◌}
+use Prim.Native.Nat.{◌≤◌}
 use Rattle.mem.specs.Memory.{lent}
-use Rattle.rows.specs.Answers.{after, Within}
 use Rattle.rows.specs.Handler2.{rows_from}
-use Rattle.rows.specs.declared.handler2.Step.{Step}
-use borrow.Author.Rules.{rules}
 use Rattle.rows.proofs.handler2.among.Given as goal
 
 abbrev pub invariant-loop-left : goal.invariant-loop-left
@@ -18,4 +13,3 @@ invariant-loop-left l =
 
 abbrev pub decreases-loop-left : goal.decreases-loop-left
 decreases-loop-left l = l.left
-

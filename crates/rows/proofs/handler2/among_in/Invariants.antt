@@ -1,15 +1,8 @@
 -- `rows::handler2::among_in` meets its contract. Each turn passes a row. Assumes nothing.
-use mathlib.Core.Path.{◌≡◌, refl, sym, ◌∙◌, ap}
-use Prim.Native.Nat.{ℕ, suc, ◌-◌, ◌≤◌}
-use native.Mathlib.Omega.{arith}
-use Rattle.leb.proofs.Numbers.{small}
-use Rattle.failure.specs.Outcome.{Answer}
-use Rattle.mem.specs.Memory.{Memory}
-use Rattle.leb.specs.Reader.{Read}
-use Rattle.rows.specs.Handler2.{uleb, rows_from}
+use mathlib.Core.Path.{◌≡◌}
+use Prim.Native.Nat.{◌≤◌}
+use Rattle.rows.specs.Handler2.{rows_from}
 use Rattle.rows.specs.Held.{alone}
-use Rattle.rows.proofs.Short.{unsettled, said, row-past, row_here, row_on}
-use borrow.Author.Rules.{rules}
 use Rattle.rows.proofs.handler2.among_in.Given as goal
 
 abbrev pub invariant-loop-left : goal.invariant-loop-left
@@ -18,4 +11,3 @@ invariant-loop-left l =
 
 abbrev pub decreases-loop-left : goal.decreases-loop-left
 decreases-loop-left l = l.left
-

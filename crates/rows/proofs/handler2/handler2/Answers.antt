@@ -1,8 +1,6 @@
 -- `rows::handler2::handler2` meets its contract. Assumes nothing.
 use mathlib.Core.Path.{sym, ◌∙◌}
-use borrow.Author.Tests.{not-true, not-false}
 use Rattle.rows.specs.Handler2.{handler2_in}
-use borrow.Author.Rules.{rules}
 use Rattle.rows.proofs.handler2.handler2.Goals as goal
 
 pub returns-then-not-opens : goal.returns-then-not-opens

@@ -2,7 +2,6 @@
 use mathlib.Core.Path.{sym, ◌∙◌, ap}
 use Rattle.leb.specs.Reader.{told}
 use Rattle.rows.proofs.Rows2.{rows_refused, rows-read}
-use borrow.Author.Rules.{rules}
 use Rattle.rows.proofs.handler2.handler2_anywhere.Goals as goal
 
 pub returns-in-Refused : goal.returns-in-Refused

@@ -1,6 +1,5 @@
 -- `rows::handler2::handler2_at` meets its contract. Assumes nothing.
 use mathlib.Core.Path.{◌∙◌}
-use borrow.Author.Rules.{rules}
 use Rattle.rows.proofs.handler2.handler2_at.Goals as goal
 
 pub returns : goal.returns

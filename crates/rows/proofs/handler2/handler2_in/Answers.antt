@@ -6,7 +6,6 @@ use Rattle.leb.proofs.Numbers.{small}
 use Rattle.rows.proofs.Rows2.{rows-read}
 use Rattle.rows.proofs.Section.{handler2-same}
 use Rattle.rows.proofs.Short.{unsettled, said}
-use borrow.Author.Rules.{rules}
 use Rattle.rows.proofs.handler2.handler2_in.Goals as goal
 
 pub returns-then-table-base : goal.returns-then-table-base

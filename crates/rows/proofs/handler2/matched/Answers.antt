@@ -2,7 +2,6 @@
 use mathlib.Core.Path.{sym, ◌∙◌, ap}
 use Rattle.leb.specs.Reader.{told}
 use Rattle.rows.proofs.Rows2.{matched-last, matched_refused, matched_ambiguous, matched-whole}
-use borrow.Author.Rules.{rules}
 use Rattle.rows.proofs.handler2.matched.Goals as goal
 
 pub returns-then-left-eq0 : goal.returns-then-left-eq0

@@ -2,7 +2,6 @@
 use mathlib.Core.Path.{refl}
 use Rattle.rows.proofs.Rows2.{matched-last, matched-whole}
 use Rattle.rows.proofs.Short.{worded-row, unsettled, said}
-use borrow.Author.Rules.{rules}
 use Rattle.rows.proofs.handler2.matched_in.Goals as goal
 
 pub returns-then-more-eq0 : goal.returns-then-more-eq0

@@ -1,7 +1,6 @@
 -- `rows::handler2::number` meets its contract. Assumes nothing.
 use mathlib.Core.Path.{◌∙◌, ap}
 use Rattle.leb.specs.Reader.{numbered}
-use borrow.Author.Rules.{rules}
 use Rattle.rows.proofs.handler2.number.Goals as goal
 
 pub returns : goal.returns

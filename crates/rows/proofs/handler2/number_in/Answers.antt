@@ -1,7 +1,6 @@
 -- `rows::handler2::number_in` meets its contract. Assumes nothing.
 use native.Mathlib.Omega.{arith}
 use Rattle.rows.proofs.Short.{byte_in, one, two, three}
-use borrow.Author.Rules.{rules}
 use Rattle.rows.proofs.handler2.number_in.Goals as goal
 
 pub returns-then-low-lt128 : goal.returns-then-low-lt128

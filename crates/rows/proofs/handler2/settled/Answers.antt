@@ -1,6 +1,5 @@
 -- `rows::handler2::settled` meets its contract. Assumes nothing.
 use borrow.Author.Tests.{eq-eqb, ne_eqb}
-use borrow.Author.Rules.{rules}
 use Rattle.rows.proofs.handler2.settled.Goals as goal
 
 pub returns-then-word-eq-NO_ROW : goal.returns-then-word-eq-NO_ROW

@@ -1,7 +1,5 @@
 -- `state::State::entry` meets its contract. Assumes nothing.
 use mathlib.Core.Path.{sym, ◌∙◌}
-use borrow.Author.Rules.{rules}
-use borrow.Author.Tests.{not-true, not-false}
 use Rattle.state.specs.Public.{entry}
 use Rattle.state.proofs.Restore.{next-given}
 use Rattle.state.proofs.Public.{entry_known, entry_unknown}

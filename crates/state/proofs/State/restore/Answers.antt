@@ -1,7 +1,5 @@
 -- `state::State::restore` meets its contract. Assumes nothing.
 use mathlib.Core.Path.{sym, ◌∙◌, ap}
-use borrow.Author.Rules.{rules}
-use borrow.Author.Tests.{not-true, not-false}
 use Rattle.state.specs.Answers.{next}
 use Rattle.state.specs.Public.{restore}
 use Rattle.state.proofs.Restore.{next-given}

@@ -1,5 +1,4 @@
 -- `state::State::save` meets its contract. Assumes nothing.
-use borrow.Author.Rules.{rules}
 use Rattle.state.specs.Save.{save}
 use Rattle.state.proofs.Restore.{next-given}
 use Rattle.state.proofs.State.save.Goals as goal

@@ -2,7 +2,6 @@
 use mathlib.Core.Path.{sym, ◌∙◌}
 use Prim.Native.Nat.{◌<◌}
 use native.Mathlib.Omega.{arith}
-use borrow.Author.Rules.{rules}
 use Rattle.state.proofs.Pairs.{place-below}
 use Rattle.state.proofs.Public.{slot-overfull, slot_at, slot_none}
 use Rattle.state.proofs.State.slot.Goals as goal

@@ -1,0 +1,57 @@
+-- `unwind::step::meet_at` meets its contract. Assumes nothing.
+use mathlib.Core.Path.{◌≡◌, ◌∙◌, ap}
+use Prim.Native.Nat.{ℕ}
+use Rattle.model.specs.FrameStep.{looked_up}
+use Rattle.personality.proofs.Reasons.{row-above, row_1}
+use Rattle.unwind.proofs.Walks.{record_bounds}
+use Rattle.unwind.proofs.Meeting.{passed-told, meets_refused, meets_unasked, meets_row, asked-rows, not_both, seen-asked}
+use Rattle.unwind.proofs.step.meet_at.Goals as goal
+use Rattle.unwind.proofs.step.meet_at.Goals.{then-record-eq-VERSION2+else-row_asked, else-record-eq-VERSION2}
+
+pub meet_through-requires : goal.meet_through-requires
+meet_through-requires c =
+    let x = c.args in
+    (c.requires.0, c.requires.1, (asked-rows x.rows x.interrupted x.«record» x.pc _ c.asked-row_asked.ensures c.if-row_asked.true).1, c.if-record-eq-VERSION2.true)
+
+pub returns-then-row_asked : goal.returns-then-row_asked
+returns-then-row_asked c =
+    let x = c.args in
+    seen-asked _ _ _ _ (asked-rows x.rows x.interrupted x.«record» x.pc _ c.asked-row_asked.ensures c.if-row_asked.true).0 _ c.meet_through.ensures
+
+pub looked_up-at-requires : goal.looked_up-at-requires
+looked_up-at-requires c =
+    (record_bounds _ _ _ _ _ _ c.requires.1).0
+
+pub past-requires : goal.past-requires
+past-requires c =
+    c.looked_up-at.ensures ∙ ap (λ (p : ℕ). looked_up c.args.interrupted p) c.requires.0
+
+pub returns-then-not-row_asked : goal.returns-then-not-row_asked
+returns-then-not-row_asked c =
+    meets_unasked _ _ _ _ _ c.requires.0 c.requires.1 _ _ c.asked-row_asked.ensures (c.if-not-row_asked.true) _
+    (passed-told _ _ _ _ _ _ _ c.past.ensures c.in-Done.is)
+
+pub overflow_sub-pc : goal.overflow_sub-pc
+overflow_sub-pc c =
+    let x = c.args in
+    row-above _ _ _ (asked-rows x.rows x.interrupted x.«record» x.pc _ c.asked-row_asked.ensures (c.if-not-row_asked.false)).1
+
+pub returns-else-not-row_asked : goal.returns-else-not-row_asked
+returns-else-not-row_asked c =
+    let x = c.args in
+    let yes = c.if-not-row_asked.false in
+    let asked = asked-rows x.rows x.interrupted x.«record» x.pc _ c.asked-row_asked.ensures yes in
+    let other : x.«record».version ≡ 2 → ⊥ =
+    elim c.if-record-eq-VERSION2.branch [
+      | then-record-eq-VERSION2+else-row_asked w ↦ absurd (not_both _ yes w.if-row_asked.false)
+      | else-record-eq-VERSION2 w ↦ w.if-record-eq-VERSION2.false
+    ]
+    in
+    meets_row _ _ _ _ _ c.requires.0 c.requires.1 _ asked.0 _
+    (passed-told _ _ _ _ _ _ _ c.past.ensures c.in-Done.is) c.handler_at-row.result
+    (row_1 _ _ _ _ _ asked.1 other _ c.handler_at-row.ensures) _ c.met_row.ensures
+
+pub returns-in-Refused : goal.returns-in-Refused
+returns-in-Refused c =
+    meets_refused _ _ _ _ _ c.requires.0 c.requires.1 _ _
+    (passed-told _ _ _ _ _ _ _ c.past.ensures c.in-Refused.is)

@@ -135,12 +135,12 @@ fn structs_that_are_given_come_back() {
     }
 }
 
-/// What the sources of the library's crates declare, all in one.
+/// What the sources of the library's crates declare, all in one, without what is derived.
 fn library() -> String {
     let crates = fs::read_dir(Path::new(env!("CARGO_MANIFEST_DIR")).join("../crates")).expect("the crates");
     let folders = crates.map(|entry| entry.expect("a crate").path().join("src"));
     let files = folders.flat_map(|folder| fs::read_dir(folder).expect("its sources")).map(|entry| entry.expect("a file").path());
-    files.filter(|file| file.extension().is_some_and(|end| end == "rt")).map(|file| fs::read_to_string(file).expect("text")).collect()
+    files.filter(|file| file.extension().is_some_and(|end| end == "rt")).map(|file| fs::read_to_string(file).expect("text").replace("#[derive(Clone, Copy)]\n", "")).collect()
 }
 
 /// The names of a struct's fields, in the order in which a source declares them.

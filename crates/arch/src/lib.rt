@@ -5,14 +5,15 @@
 #![tactic(auto)]
 
 ghost use Rattle.std.specs.Prelude.{◌≡◌, ◌<◌, length, get_or};
+ghost use Rattle.failure.specs.Outcome.{outcome, settled};
 ghost use Rattle.arch.specs.Arch as Arch;
 ghost use Rattle.arch.specs.File as File;
 ghost use Rattle.arch.specs.Public as Public;
-ghost use Rattle.arch.specs.Answers.{in_code, columned, valued, next};
+ghost use Rattle.arch.specs.Answers.{in_code, InPlace};
 
-use failure::{BAD_OPENING, UNKNOWN_REGISTER};
+use failure::Failure;
 
-// The number of aarch64.
+// The number of aarch64. An architecture is a number, and no enum: every number is taken, and any but these two refused with 28.
 pub const AARCH64: u8 = 1;
 
 // The number of x86-64.
@@ -48,7 +49,7 @@ pub struct Arch2 {
     pub fp: u16,
     pub ra: u16,
     // At entry: how many units of 8 bytes the CFA lies above sp, and the slot of the return address, 0 where it is in its
-    // register.
+    // register, since a slot is 1 or more.
     pub entry_cfa: u32,
     pub entry_ra_slot: u16,
     // Registers below low stand in the column of their number. The high_count registers from number high on stand in the columns
@@ -87,27 +88,6 @@ const X86_64_NUMBERS: Arch2 = Arch2 {
     high_column: 40,
 };
 
-// The column of a register.
-#[derive(Clone, Copy)]
-pub enum Column {
-    At(usize),
-    Unknown,
-}
-
-// A number, or a refusal.
-#[derive(Clone, Copy)]
-pub enum Value {
-    Is(usize),
-    Refused(u32),
-}
-
-// Whether a call was refused.
-#[derive(Clone, Copy)]
-pub enum Status {
-    Done,
-    Refused(u32),
-}
-
 // A register file of either architecture.
 #[repr(C)]
 #[derive(Clone, Copy)]
@@ -115,11 +95,12 @@ pub struct Regs {
     pub r: [usize; COLUMNS],
 }
 
-// A register file after a call: the next one, or for a refusal the one that came in.
+// A register file after a call: the next one, or for a refusal the one that came in, which is handed back as well; so this is no
+// `Result<Regs, Failure>`. `Next` of `state` is another struct: a generic one would have no name for what is handed back.
 #[derive(Clone, Copy)]
 pub struct Next {
     pub regs: Regs,
-    pub status: Status,
+    pub status: Result<(), Failure>,
 }
 
 // The numbers of an architecture.
@@ -133,21 +114,21 @@ pub fn numbers(arch: u8) -> Arch2
 }
 
 // The column of a register.
-pub fn column_of(arch: u8, reg: u16) -> Column
-    ensures { columned result ≡ File.column_of (Arch.numbers arch) reg }
+pub fn column_of(arch: u8, reg: u16) -> Result<usize, Failure>
+    ensures { outcome result ≡ File.column_of (Arch.numbers arch) reg }
 {
     let a = numbers(arch);
     if reg < a.low {
-        return Column::At(reg as usize);
+        return Ok(reg as usize);
     }
     if reg < a.high {
-        return Column::Unknown;
+        return Err(Failure::UnknownRegister);
     }
     let k = reg - a.high;
     if a.high_count <= k {
-        return Column::Unknown;
+        return Err(Failure::UnknownRegister);
     }
-    Column::At(a.high_column + k as usize)
+    Ok(a.high_column + k as usize)
 }
 
 // The column of the frame pointer, which is its number.
@@ -206,99 +187,86 @@ pub fn stripped(arch: u8, address: usize) -> usize
 pub fn is_known(arch: u8) -> bool
     ensures { result ≡ Arch.is_known arch }
 {
-    if arch == AARCH64 {
-        return true;
+    arch == AARCH64 || arch == X86_64
+}
+
+// 28 for an unknown architecture.
+pub fn require_known(arch: u8) -> Result<(), Failure>
+    ensures { outcome result ≡ settled (Arch.known arch) }
+{
+    if is_known(arch) {
+        return Ok(());
     }
-    arch == X86_64
+    Err(Failure::BadOpening)
 }
 
 // strip_pac: the address modulo 2^48 on aarch64, itself on x86-64.
-pub fn strip_pac(arch: u8, address: usize) -> Value
-    ensures { valued result ≡ Public.strip_pac arch address }
+pub fn strip_pac(arch: u8, address: usize) -> Result<usize, Failure>
+    ensures { outcome result ≡ Public.strip_pac arch address }
 {
-    if !is_known(arch) {
-        return Value::Refused(BAD_OPENING);
-    }
-    Value::Is(stripped(arch, address))
+    require_known(arch)?;
+    Ok(stripped(arch, address))
 }
 
 impl Regs {
     // A register's value.
-    pub fn get(self, arch: u8, reg: u16) -> Value
-        ensures { valued result ≡ Public.get arch self.r reg }
+    pub fn get(self, arch: u8, reg: u16) -> Result<usize, Failure>
+        ensures { outcome result ≡ Public.get arch self.r reg }
     {
-        if !is_known(arch) {
-            return Value::Refused(BAD_OPENING);
-        }
-        match column_of(arch, reg) {
-            Column::At(k) => Value::Is(self.r[k]),
-            Column::Unknown => Value::Refused(UNKNOWN_REGISTER),
-        }
+        require_known(arch)?;
+        let k = column_of(arch, reg)?;
+        Ok(self.r[k])
+    }
+
+    // A register set in place; a refusal leaves the file as it was.
+    fn put(&mut self, arch: u8, reg: u16, value: usize) -> Result<(), Failure>
+        ensures { InPlace self.old.r (Public.set arch self.old.r reg value) result self.new.r }
+    {
+        require_known(arch)?;
+        let column = column_of(arch, reg)?;
+        self.r[column] = value;
+        Ok(())
     }
 
     // The file with a register set.
     pub fn set(mut self, arch: u8, reg: u16, value: usize) -> Next
-        ensures { result ≡ next self (Public.set arch self.r reg value) }
+        ensures { InPlace self.r (Public.set arch self.r reg value) result.status result.regs.r }
     {
-        if !is_known(arch) {
-            return Next {
-                status: Status::Refused(BAD_OPENING),
-                regs: self,
-            };
-        }
-        match column_of(arch, reg) {
-            Column::At(k) => {
-                self.r[k] = value;
-                Next {
-                    status: Status::Done,
-                    regs: self,
-                }
-            }
-            Column::Unknown => Next {
-                status: Status::Refused(UNKNOWN_REGISTER),
-                regs: self,
-            },
-        }
+        let status = self.put(arch, reg, value);
+        Next { regs: self, status }
     }
 
     // The frame pointer.
-    pub fn fp(self, arch: u8) -> Value
-        ensures { valued result ≡ Public.fp arch self.r }
+    pub fn fp(self, arch: u8) -> Result<usize, Failure>
+        ensures { outcome result ≡ Public.fp arch self.r }
     {
-        if !is_known(arch) {
-            return Value::Refused(BAD_OPENING);
-        }
-        let k = fp_column(arch);
-        Value::Is(self.r[k])
+        require_known(arch)?;
+        Ok(self.r[fp_column(arch)])
     }
 
     // The stack pointer.
-    pub fn sp(self, arch: u8) -> Value
-        ensures { valued result ≡ Public.sp arch self.r }
+    pub fn sp(self, arch: u8) -> Result<usize, Failure>
+        ensures { outcome result ≡ Public.sp arch self.r }
     {
-        if !is_known(arch) {
-            return Value::Refused(BAD_OPENING);
-        }
-        let k = sp_column(arch);
-        Value::Is(self.r[k])
+        require_known(arch)?;
+        Ok(self.r[sp_column(arch)])
+    }
+
+    // The stack pointer set in place; a refusal leaves the file as it was.
+    fn put_sp(&mut self, arch: u8, value: usize) -> Result<(), Failure>
+        ensures { InPlace self.old.r (Public.set_sp arch self.old.r value) result self.new.r }
+    {
+        require_known(arch)?;
+        self.r[sp_column(arch)] = value;
+        Ok(())
     }
 
     // The file with the stack pointer set.
     pub fn set_sp(mut self, arch: u8, value: usize) -> Next
-        ensures { result ≡ next self (Public.set_sp arch self.r value) }
+        ensures { InPlace self.r (Public.set_sp arch self.r value) result.status result.regs.r }
     {
-        if !is_known(arch) {
-            return Next {
-                status: Status::Refused(BAD_OPENING),
-                regs: self,
-            };
-        }
-        let k = sp_column(arch);
-        self.r[k] = value;
-        Next {
-            status: Status::Done,
-            regs: self,
-        }
+        let status = self.put_sp(arch, value);
+        Next { regs: self, status }
     }
 
     // pc.

@@ -1,2 +1,3 @@
 -- What the definitions of the numbers come to.
 pub mod Causes
+pub mod Outcome

@@ -1,6 +1,8 @@
 -- The numbers with which a call is turned back, and who causes each (document 01, "Turned back, by who causes it", and document 02,
 -- request by request). The names are ps-unwind's; it has none from 27 on.
 use Rattle.std.specs.Prelude.{Bool, false, ◌||◌, List, [], ◌∷◌, ℕ, eqb, if◌then◌else◌}
+use Rattle.failure.specs.declared.Failure.{Failure}
+use Rattle.failure.specs.declared.Failure.TheVariants as failure
 
 -- a fifth remember in a state program
 abbrev pub RememberStackOverflow : ℕ
@@ -69,6 +71,26 @@ BadUleb = 31
 -- a 33rd register is saved (document 02 (c))
 abbrev pub TooManySaved : ℕ
 TooManySaved = 32
+
+-- the number of each case of a Failure
+abbrev pub number : Failure → ℕ
+number failure.RememberStackOverflow = RememberStackOverflow
+number failure.UnknownRegister = UnknownRegister
+number failure.BadCfaRule = BadCfaRule
+number failure.BadEkoHeader = BadEkoHeader
+number failure.BadEkoRecord = BadEkoRecord
+number failure.EkoUnsorted = EkoUnsorted
+number failure.StackNotAdvancing = StackNotAdvancing
+number failure.HandlerFrameMissed = HandlerFrameMissed
+number failure.Misaligned = Misaligned
+number failure.EkoAmbiguousCallSite = EkoAmbiguousCallSite
+number failure.EkoAsyncFrame = EkoAsyncFrame
+number failure.OutsideMemory = OutsideMemory
+number failure.BadOpening = BadOpening
+number failure.TooManyFrames = TooManyFrames
+number failure.EkoTruncated = EkoTruncated
+number failure.BadUleb = BadUleb
+number failure.TooManySaved = TooManySaved
 
 -- n is one of the numbers
 abbrev pub one_of : ℕ → List ℕ → Bool

@@ -4,6 +4,7 @@ pub mod Place
 pub mod Accepted
 pub mod Part
 pub mod Word
+pub mod LittleEndian
 pub mod Loaded
 pub mod Bytes
 pub mod Slot

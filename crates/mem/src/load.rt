@@ -1,23 +1,22 @@
 // Bytes and little-endian words at an address. Nothing here asks that what is lent is accepted: whoever lends it asks that once.
-ghost use Rattle.std.specs.Prelude.{◌≡◌, ◌^◌, ◌<◌, length};
+ghost use Rattle.std.specs.Prelude.{◌≡◌, ◌<◌};
+ghost use Rattle.failure.specs.Outcome.{outcome};
 ghost use Rattle.mem.specs.Memory.{lent};
-ghost use Rattle.mem.specs.Place.{holds, placed, place_of};
+ghost use Rattle.mem.specs.Given.{lent_by};
+ghost use Rattle.mem.specs.Place.{holds, placed, place_of, bytes_at};
 ghost use Rattle.mem.specs.Part.{PartOf};
-ghost use Rattle.mem.specs.Word.{little_endian, loaded, word_in, Below, Loaded};
+ghost use Rattle.mem.specs.Word.{load};
 
-// Where bytes stand: an offset in the section or in the stack.
+use crate::Memory;
+use failure::Failure;
+
+// Where bytes stand: an offset in the section or in the stack, or in neither. Three places, and none is a failure: a read of no bytes
+// is the empty part there.
 #[derive(Clone, Copy)]
 pub enum Place {
     Section(usize),
     Stack(usize),
     Neither,
-}
-
-// A number read from memory, or 27.
-#[derive(Clone, Copy)]
-pub enum Word {
-    Value(usize),
-    Outside,
 }
 
 // The n bytes at address a all lie in the range of addresses.
@@ -34,140 +33,66 @@ fn holds(base: usize, size: usize, a: usize, n: usize) -> bool
     n <= size - k
 }
 
-// Where the n bytes at address a stand.
-pub fn place_of(
-    section: &[u8],
-    section_base: usize,
-    stack: &[u8],
-    stack_base: usize,
-    a: usize,
-    n: usize,
-) -> Place
-    ensures { placed result ≡
-        place_of (lent section.now section_base stack.now stack_base).regions a n }
-{
-    if holds(section_base, section.len(), a, n) {
-        return Place::Section(a - section_base);
-    }
-    if holds(stack_base, stack.len(), a, n) {
-        return Place::Stack(a - stack_base);
-    }
-    Place::Neither
-}
-
-// The n bytes at address a as a part of whichever slice holds them all; the empty part at 0 of the section where neither does.
-pub fn bytes_at<'a>(
-    section: &'a [u8],
-    section_base: usize,
-    stack: &'a [u8],
-    stack_base: usize,
-    a: usize,
-    n: usize,
-) -> &'a [u8]
-    ensures { PartOf section.entry stack.entry n
-        (place_of (lent section.now section_base stack.now stack_base).regions a n) result }
-{
-    match place_of(section, section_base, stack, stack_base, a, n) {
-        Place::Section(k) => {
-            let e = k + n;
-            &section[k..e]
+impl<'a> Memory<'a> {
+    // Where the n bytes at address a stand.
+    pub fn place_of(&self, a: usize, n: usize) -> Place
+        ensures { placed result ≡ place_of (lent_by self.now).regions a n }
+    {
+        if holds(self.section_base, self.section.len(), a, n) {
+            return Place::Section(a - self.section_base);
         }
-        Place::Stack(k) => {
-            let e = k + n;
-            &stack[k..e]
+        if holds(self.stack_base, self.stack.len(), a, n) {
+            return Place::Stack(a - self.stack_base);
         }
-        Place::Neither => &section[0..0],
+        Place::Neither
     }
-}
 
-// A byte as an address-sized number.
-fn wide(x: u8) -> usize
-    ensures { (result ≡ x) × (result < 256) }
-{
-    x as usize
-}
-
-// The number in one byte.
-fn le1(b: &[u8]) -> usize
-    requires { length b.now ≡ 1 }
-    ensures { (result ≡ little_endian b.now) × (result < 256 ^ 1) }
-{
-    // the byte is the number
-    wide(b[0])
-}
-
-// The number in four bytes.
-fn le4(b: &[u8]) -> usize
-    requires { length b.now ≡ 4 }
-    ensures { (result ≡ little_endian b.now) × (result < 256 ^ 4) }
-{
-    // the lowest byte comes first: byte i counts 256^i
-    wide(b[0]) + 0x100 * wide(b[1]) + 0x1_0000 * wide(b[2]) + 0x100_0000 * wide(b[3])
-}
-
-// The number in eight bytes.
-fn le8(b: &[u8]) -> usize
-    requires { length b.now ≡ 8 }
-    ensures { (result ≡ little_endian b.now) × (result < 256 ^ 8) }
-{
-    // the lower word comes first; the other counts 2^32
-    le4(&b[0..4]) + 0x1_0000_0000 * le4(&b[4..8])
-}
-
-// The u64 in eight bytes; 27 for any other count of them.
-pub fn u64_in(b: &[u8]) -> Word
-    ensures { (loaded result ≡ word_in 8 b.now) × Below (256 ^ 8) result }
-{
-    if b.len() == 8 {
-        return Word::Value(le8(b));
+    // The n bytes at address a as a part of whichever slice holds them all; the empty part at 0 of the section where neither does.
+    pub fn bytes_at(&self, a: usize, n: usize) -> &'a [u8]
+        ensures { PartOf self.now.section self.now.stack n (place_of (lent_by self.now).regions a n) result }
+    {
+        match self.place_of(a, n) {
+            Place::Section(k) => {
+                let e = k + n;
+                &self.section[k..e]
+            }
+            Place::Stack(k) => {
+                let e = k + n;
+                &self.stack[k..e]
+            }
+            Place::Neither => &self.section[0..0],
+        }
     }
-    Word::Outside
-}
 
-// The u8 at address a.
-pub fn load_u8<'a>(
-    section: &'a [u8],
-    section_base: usize,
-    stack: &'a [u8],
-    stack_base: usize,
-    a: usize,
-) -> Word
-    ensures { Loaded (lent section.now section_base stack.now stack_base).regions 1 a result }
-{
-    let b = bytes_at(section, section_base, stack, stack_base, a, 1);
-    if b.len() == 1 {
-        return Word::Value(le1(b));
+    // The N bytes at address a.
+    fn array_at<const N: usize>(&self, a: usize) -> Result<[u8; N], Failure>
+        requires { 0 < N }
+        ensures { outcome result ≡ bytes_at (lent_by self.now).regions a N }
+    {
+        match <[u8; N]>::try_from(self.bytes_at(a, N)) {
+            Ok(bytes) => Ok(bytes),
+            Err(_) => Err(Failure::OutsideMemory),
+        }
     }
-    Word::Outside
-}
 
-// The u32 at address a.
-pub fn load_u32<'a>(
-    section: &'a [u8],
-    section_base: usize,
-    stack: &'a [u8],
-    stack_base: usize,
-    a: usize,
-) -> Word
-    ensures { Loaded (lent section.now section_base stack.now stack_base).regions 4 a result }
-{
-    let b = bytes_at(section, section_base, stack, stack_base, a, 4);
-    if b.len() == 4 {
-        return Word::Value(le4(b));
+    // The u8 at address a. It and the two after it are three functions: `from_le_bytes` is each type's own, and no trait's.
+    pub fn load_u8(&self, a: usize) -> Result<u8, Failure>
+        ensures { outcome result ≡ load (lent_by self.now).regions 1 a }
+    {
+        Ok(u8::from_le_bytes(self.array_at(a)?))
     }
-    Word::Outside
-}
 
-// The u64 at address a.
-pub fn load_u64<'a>(
-    section: &'a [u8],
-    section_base: usize,
-    stack: &'a [u8],
-    stack_base: usize,
-    a: usize,
-) -> Word
-    ensures { Loaded (lent section.now section_base stack.now stack_base).regions 8 a result }
-{
-    let b = bytes_at(section, section_base, stack, stack_base, a, 8);
-    u64_in(b)
+    // The u32 at address a.
+    pub fn load_u32(&self, a: usize) -> Result<u32, Failure>
+        ensures { outcome result ≡ load (lent_by self.now).regions 4 a }
+    {
+        Ok(u32::from_le_bytes(self.array_at(a)?))
+    }
+
+    // The u64 at address a.
+    pub fn load_u64(&self, a: usize) -> Result<usize, Failure>
+        ensures { outcome result ≡ load (lent_by self.now).regions 8 a }
+    {
+        Ok(usize::from_le_bytes(self.array_at(a)?))
+    }
 }

@@ -1,7 +1,9 @@
 // When what is lent is accepted.
 ghost use Rattle.std.specs.Prelude.{◌≡◌};
-ghost use Rattle.mem.specs.Memory.{lent};
+ghost use Rattle.mem.specs.Given.{lent_by};
 ghost use Rattle.mem.specs.Opening as Opening;
+
+use crate::Memory;
 
 // A base address is 1 to 2^62, a length 0 to 2^31.
 fn bounded(base: usize, size: usize) -> bool
@@ -32,15 +34,18 @@ fn apart(base: usize, size: usize, other: usize, other_size: usize) -> bool
     other_size <= base - other
 }
 
-// What is lent is accepted; otherwise whatever it is lent to refuses with 28.
-pub fn opens(section: &[u8], section_base: usize, stack: &[u8], stack_base: usize) -> bool
-    ensures { result ≡ Opening.opens (lent section.now section_base stack.now stack_base) }
-{
-    if !bounded(section_base, section.len()) {
-        return false;
+impl Memory<'_> {
+    // What is lent is accepted; otherwise whatever it is lent to refuses with 28.
+    pub fn opens(&self) -> bool
+        ensures { result ≡ Opening.opens (lent_by self.now) }
+    {
+        bounded(self.section_base, self.section.len())
+            && apart(
+                self.section_base,
+                self.section.len(),
+                self.stack_base,
+                self.stack.len(),
+            )
+            && bounded(self.stack_base, self.stack.len())
     }
-    if !apart(section_base, section.len(), stack_base, stack.len()) {
-        return false;
-    }
-    bounded(stack_base, stack.len())
 }

@@ -6,18 +6,14 @@ ghost use Rattle.mem.specs.Wrapping as Wrapping;
 pub fn add(a: usize, b: usize) -> usize
     ensures { result ≡ Wrapping.sum a b }
 {
-    std::num::wrapping_add_usize(a, b)
+    a.wrapping_add(b)
 }
 
 // a - b modulo 2^64.
 pub fn sub(a: usize, b: usize) -> usize
     ensures { result ≡ Wrapping.difference a b }
 {
-    if b <= a {
-        return a - b;
-    }
-    // a < b here: this is a + (2^64 - b)
-    a + (usize::MAX - b) + 1
+    a.wrapping_sub(b)
 }
 
 // A 32-bit word read as a signed number, modulo 2^64: compiled to one instruction.
@@ -25,7 +21,7 @@ pub fn extend(word: u32) -> usize
     ensures { result ≡ Wrapping.signed32 word }
 {
     // the signed number plus 2^31, which is 0 to 2^32 - 1
-    let shifted = std::num::wrapping_add_u32(word, 0x8000_0000);
+    let shifted = word.wrapping_add(0x8000_0000);
     // plus 2^64 - 2^31: the 2^31 is taken away again, modulo 2^64
     add(shifted as usize, 0xffff_ffff_8000_0000)
 }

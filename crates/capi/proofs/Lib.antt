@@ -1,1 +1,0 @@
--- The proofs of the C interface, which need no laws of their own.

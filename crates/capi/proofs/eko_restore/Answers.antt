@@ -1,7 +1,0 @@
--- `capi::eko_restore` meets its contract. Assumes nothing.
-use mathlib.Core.Path.{◌∙◌, ap}
-use Rattle.answers.specs.Interface.{changed}
-use Rattle.capi.proofs.eko_restore.Goals as goal
-
-pub returns : goal.returns
-returns c = c.to_changed.ensures ∙ ap changed c.restore.ensures.0

@@ -1,7 +1,0 @@
--- `capi::eko_save` meets its contract. Assumes nothing.
-use mathlib.Core.Path.{◌∙◌, ap}
-use Rattle.answers.specs.Interface.{changed}
-use Rattle.capi.proofs.eko_save.Goals as goal
-
-pub returns : goal.returns
-returns c = c.to_changed.ensures ∙ ap changed c.save.ensures.0

@@ -1,4 +1,0 @@
--- Laws of the cursor, and what its readers come to.
-pub mod Cursor
-pub mod Reading
-pub mod Making

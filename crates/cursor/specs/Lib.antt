@@ -1,2 +1,0 @@
--- The cursor.
-pub mod Cursor

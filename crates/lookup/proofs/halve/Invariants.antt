@@ -1,9 +1,0 @@
--- `lookup::halve` meets its contract. The invariant is `Halved`; the measure is what is left of the turns. Assumes nothing.
-use Rattle.lookup.proofs.Halving.{Halved}
-use Rattle.lookup.proofs.halve.Given as goal
-
-abbrev pub invariant-loop-turns : goal.invariant-loop-turns
-invariant-loop-turns l = Halved l.part l.base l.c l.pc l.lo l.hi l.turns
-
-abbrev pub decreases-loop-turns : goal.decreases-loop-turns
-decreases-loop-turns l = l.turns

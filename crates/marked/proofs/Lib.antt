@@ -1,2 +1,0 @@
--- The joint statement of the marked examples.
-pub mod Joint

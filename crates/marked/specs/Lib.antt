@@ -1,3 +1,0 @@
--- The marked examples of document 01, "Bench examples".
-pub mod Example
-pub mod Table

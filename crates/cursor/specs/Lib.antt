@@ -1,0 +1,2 @@
+-- The cursor.
+pub mod Cursor

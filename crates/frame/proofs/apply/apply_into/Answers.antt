@@ -1,0 +1,38 @@
+-- `frame::apply::apply_into` meets its contract. Assumes nothing.
+use Rattle.std.proofs.Common.{rules, sym, ◌∙◌, ap, arith}
+use Rattle.failure.specs.Outcome.{outcome}
+use Rattle.arch.proofs.InPlace.{place_done, place_exit}
+use Rattle.frame.specs.Layout.{layout}
+use Rattle.frame.proofs.Partly.{place_as, partly_answered, done_partly, refused_partly}
+use Rattle.frame.proofs.Unrefused.{near_applies}
+use Rattle.frame.proofs.Applied.{above_refused, above_passes}
+use Rattle.frame.proofs.apply.apply_into.Goals as goal
+
+pub returns-in_err-cfa : goal.returns-in_err-cfa
+returns-in_err-cfa c =
+    let file = c.args.file.now in
+    place_exit _ _ _ _ c.from_residual.ensures.1
+    (above_refused _ _ (layout c.args.state.now) file _ (c.base_column.ensures.0 file) _ (sym (ap outcome c.in_err-cfa.was) ∙ c.cfa_above.ensures))
+
+pub returns : goal.returns
+returns c =
+    let x = c.args in
+    let file = x.file.now in
+    let answer = near_applies x.arch x.memory.now c.in_ok-cfa.cfa (omega arith) c.in-Some.depth (c.near.ensures c.if-near.true) file x.state.now (search rules) (search rules) c.in-Some.ensures.1 in
+    place_as _ _
+    (above_passes _ _ (layout x.state.now) file _ (c.base_column.ensures.0 file) _ c.in_ok-cfa.ensures)
+    _ _ _ (partly_answered _ _ _ _ answer.0 answer.1 c.apply_from.ensures)
+
+pub returns-in_err-apply_from : goal.returns-in_err-apply_from
+returns-in_err-apply_from c =
+    let file = c.args.file.now in
+    place_exit _ _ _ _ c.from_residual-in_err-apply_from.ensures.1
+    (sym (above_passes _ _ (layout c.args.state.now) file _ (c.base_column.ensures.0 file) _ c.in_ok-cfa.ensures) ∙
+    refused_partly _ _ _ _ c.apply_from-2.ensures c.in_err-apply_from.was)
+
+pub returns-2 : goal.returns-2
+returns-2 c =
+    let file = c.args.file.now in
+    place_done _ _ _
+    (sym (above_passes _ _ (layout c.args.state.now) file _ (c.base_column.ensures.0 file) _ c.in_ok-cfa.ensures) ∙
+    done_partly _ _ _ c.apply_from-2.ensures c.in_ok-apply_from.was)

@@ -1,0 +1,105 @@
+// The slots of a frame, each of 8 bytes, counted down from the CFA: read anywhere in what is lent, or in the stack alone, where it is
+// known that they lie there.
+ghost use Rattle.std.specs.Prelude.{◌≡◌, true, ℕ, ◌*◌, ◌≤◌, ◌<◌, length};
+ghost use Rattle.failure.specs.Outcome.{outcome};
+ghost use Rattle.mem.specs.Memory as Lent;
+ghost use Rattle.mem.specs.Given.{lent_by};
+ghost use Rattle.frame.specs.Apply as Apply;
+ghost use Rattle.frame.specs.Near.{Near, slot_in};
+
+use failure::Failure;
+use mem::{Memory, wrapping};
+
+// How the slots of one frame are read: of what is lent, below which CFA, and which of them may be asked for.
+pub trait Slots {
+    ghost regions: { Self → Lent.Memory };
+
+    ghost at: { Self → ℕ };
+
+    ghost within: { Self → ℕ → Type 0 };
+
+    // The CFA.
+    fn cfa(&self) -> usize
+        ensures { result ≡ at self.now };
+
+    // What stands in a slot.
+    fn load(&self, slot: usize) -> Result<usize, Failure>
+        requires { within self.now slot }
+        ensures { outcome result ≡ Apply.load_slot (regions self.now) (at self.now) slot };
+}
+
+// Below a CFA, anywhere.
+#[derive(Clone, Copy)]
+pub struct Anywhere<'a> {
+    pub memory: &'a Memory<'a>,
+    pub cfa: usize,
+}
+
+impl<'a> Slots for Anywhere<'a> {
+    ghost regions = { λ s. (lent_by s.memory.now).regions };
+
+    ghost at = { λ s. s.cfa };
+
+    ghost within = { λ s slot. slot < 65536 };
+
+    fn cfa(&self) -> usize {
+        self.cfa
+    }
+
+    fn load(&self, slot: usize) -> Result<usize, Failure> {
+        self.memory.load_u64(wrapping::sub(self.cfa, 8 * slot))
+    }
+}
+
+// Below a CFA, in the stack.
+#[derive(Clone, Copy)]
+pub struct InStack<'a> {
+    pub memory: &'a Memory<'a>,
+    pub cfa: usize,
+}
+
+impl<'a> Slots for InStack<'a> {
+    ghost regions = { λ s. (lent_by s.memory.now).regions };
+
+    ghost at = { λ s. s.cfa };
+
+    ghost within = { λ s slot. (0 < slot) × Near s.memory.now s.cfa slot };
+
+    fn cfa(&self) -> usize {
+        self.cfa
+    }
+
+    // none is refused
+    fn load(&self, slot: usize) -> Result<usize, Failure> {
+        Ok(slot_in(self.memory.stack, self.cfa - self.memory.stack_base, slot))
+    }
+}
+
+// Slots 1 to depth lie in the stack, and no byte of them in the section.
+pub(crate) fn near(memory: &Memory<'_>, cfa: usize, depth: usize) -> bool
+    requires { depth < 65536 }
+    ensures { result ≡ true → Near memory.now cfa depth }
+{
+    if cfa < memory.stack_base {
+        return false;
+    }
+    let top = cfa - memory.stack_base;
+    if memory.stack.len() < top || top < 8 * depth {
+        return false;
+    }
+    if cfa <= memory.section_base {
+        return true;
+    }
+    let low = cfa - 8 * depth;
+    memory.section_base <= low && memory.section.len() <= low - memory.section_base
+}
+
+// What stands in a slot of the stack.
+fn slot_in(stack: &[u8], top: usize, slot: usize) -> usize
+    requires { (0 < slot) × (8 * slot ≤ top) × (top ≤ length stack.now) }
+    ensures { result ≡ slot_in stack.now top slot }
+{
+    // the slot's bytes in the stack, where the CFA is at top
+    let k = top - 8 * slot;
+    usize::from_le_bytes(<[u8; 8]>::try_from(&stack[k..k + 8]).unwrap())
+}

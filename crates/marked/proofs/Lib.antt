@@ -1,0 +1,2 @@
+-- The joint statement of the marked examples.
+pub mod Joint

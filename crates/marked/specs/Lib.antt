@@ -1,0 +1,3 @@
+-- The marked examples of document 01, "Bench examples".
+pub mod Example
+pub mod Table

@@ -1,0 +1,65 @@
+-- `unwind::step::meet_at` meets its contract. Assumes nothing.
+use Rattle.std.proofs.Common.{◌≡◌, ℕ, ap, ◌∙◌, sym}
+use Rattle.failure.proofs.Outcome.{exit_as}
+use Rattle.model.specs.FrameStep.{looked_up}
+use Rattle.personality.proofs.Reasons.{row-above}
+use Rattle.unwind.proofs.Walks.{record_bounds}
+use Rattle.unwind.proofs.Meeting.{asked-rows, not_both, seen-asked, meets_refused, meets_unasked, meets_row, meets_rowless_refused, row_1}
+use Rattle.unwind.proofs.step.meet_at.Goals as goal
+use Rattle.unwind.proofs.step.meet_at.Goals.{then-row_asked+else-record-eq-VERSION2, else-row_asked}
+
+pub meet_through-requires : goal.meet_through-requires
+meet_through-requires c =
+    let x = c.args in
+    (c.requires.0, c.requires.1, (asked-rows x.rows x.interrupted x.«record» x.pc _ c.asked-row_asked.ensures c.if-row_asked.true).1, c.if-record-eq-VERSION2.true)
+
+pub returns-then-record-eq-VERSION2 : goal.returns-then-record-eq-VERSION2
+returns-then-record-eq-VERSION2 c =
+    let x = c.args in
+    seen-asked _ _ _ _ (asked-rows x.rows x.interrupted x.«record» x.pc _ c.asked-row_asked.ensures c.if-row_asked.true).0 _ c.meet_through.ensures
+
+pub looked_up-at-requires : goal.looked_up-at-requires
+looked_up-at-requires c = (record_bounds _ _ _ _ _ _ c.requires.1).0
+
+pub past-requires : goal.past-requires
+past-requires c = c.looked_up-at.ensures ∙ ap (λ (p : ℕ). looked_up c.args.interrupted p) c.requires.0
+
+pub returns-in_err-past : goal.returns-in_err-past
+returns-in_err-past c =
+    exit_as _ _ _ c.from_residual.ensures.1 ∙ meets_refused _ _ _ _ _ c.requires.0 c.requires.1 _ _ c.in_err-past.ensures
+
+pub returns-then-not-row_asked : goal.returns-then-not-row_asked
+returns-then-not-row_asked c =
+    meets_unasked _ _ _ _ _ c.requires.0 c.requires.1 _ _ c.in_ok-past.ensures (sym c.asked-row_asked.ensures ∙ c.if-not-row_asked.true)
+
+pub overflow_sub-pc : goal.overflow_sub-pc
+overflow_sub-pc c =
+    let x = c.args in
+    row-above _ _ _ (asked-rows x.rows x.interrupted x.«record» x.pc _ c.asked-row_asked.ensures (c.if-not-row_asked.false)).1
+
+pub returns-in_err-row : goal.returns-in_err-row
+returns-in_err-row c =
+    let x = c.args in
+    let yes = c.if-not-row_asked.false in
+    let asked = asked-rows x.rows x.interrupted x.«record» x.pc _ c.asked-row_asked.ensures yes in
+    let other : x.«record».version ≡ 2 → ⊥ =
+    elim c.if-row_asked.branch [
+      | then-row_asked+else-record-eq-VERSION2 w ↦ w.if-record-eq-VERSION2.false
+      | else-row_asked w ↦ absurd (not_both _ yes w.if-row_asked.false)
+    ]
+    in
+    exit_as _ _ _ c.from_residual-in_err-row.ensures.1
+    ∙ meets_rowless_refused _ _ _ _ _ c.requires.0 c.requires.1 _ _ c.in_ok-past.ensures asked.0 _ (row_1 _ _ _ _ _ asked.1 other _ c.in_err-row.ensures)
+
+pub returns : goal.returns
+returns c =
+    let x = c.args in
+    let yes = c.if-not-row_asked.false in
+    let asked = asked-rows x.rows x.interrupted x.«record» x.pc _ c.asked-row_asked.ensures yes in
+    let other : x.«record».version ≡ 2 → ⊥ =
+    elim c.if-row_asked.branch [
+      | then-row_asked+else-record-eq-VERSION2 w ↦ w.if-record-eq-VERSION2.false
+      | else-row_asked w ↦ absurd (not_both _ yes w.if-row_asked.false)
+    ]
+    in
+    meets_row _ _ _ _ _ c.requires.0 c.requires.1 _ _ c.in_ok-past.ensures asked.0 _ (row_1 _ _ _ _ _ asked.1 other _ c.in_ok-row.ensures) _ c.met_row.ensures

@@ -1,0 +1,164 @@
+-- What a turn of a loop comes to: no definition of the model goes through these.
+use Rattle.std.specs.Prelude.{◌≡◌, Bool, not, ◌&&◌, ◌||◌, List, ℕ, eqb, ltb, Result, Option, Some, None, if◌then◌else◌}
+use Rattle.std.specs.declared.ops.ControlFlow.{ControlFlow}
+use Rattle.std.specs.declared.ops.ControlFlow.TheVariants as flow
+use Rattle.failure.specs.Outcome.{Outcome, Refused, Answer, outcome, map, ◌>>=◌}
+use Rattle.failure.specs.Failure.{number, StackNotAdvancing, TooManyFrames, HandlerFrameMissed}
+use Rattle.failure.specs.declared.Failure.{Failure}
+use Rattle.mem.specs.Memory.{Memory, Lent, lent}
+use Rattle.arch.specs.Arch.{Arch, numbers}
+use Rattle.arch.specs.File.{pc}
+use Rattle.rows.specs.Row.{Found, number_of, cleanup, catch}
+use Rattle.rows.specs.declared.Row.{Row}
+use Rattle.lookup.specs.declared.Record.{Record}
+use Rattle.personality.specs.Reason.{row_of, installed, searched_code, handler_found, fatal_phase1}
+use Rattle.program.specs.Run.{run}
+use Rattle.frame.specs.Layout.{layout}
+use Rattle.frame.specs.Apply.{apply}
+use Rattle.model.specs.FrameStep as Walk
+use Rattle.model.specs.FrameStep.{Frame, Step, looked_up, max_frames, caller_of, find, past, frame_step}
+use Rattle.model.specs.Search as Search
+use Rattle.model.specs.Search.{Searched}
+use Rattle.model.specs.Cleanup as Cleanup
+use Rattle.model.specs.Cleanup.{Cleaned}
+use Rattle.unwind.specs.Answers.{searched_as}
+use Rattle.unwind.specs.declared.RaiseAnswer.{RaiseAnswer}
+use Rattle.unwind.specs.declared.Met.{Met}
+use Rattle.unwind.specs.declared.Met.TheVariants as met
+use Rattle.unwind.specs.declared.cleanup.Cleaning.{Cleaning}
+use Rattle.unwind.specs.declared.cleanup.Cleaning.TheVariants as cleaning
+
+-- the outcome that a status tells of, beside the file as it is then
+abbrev pub file_told : Result (Unit {0}) Failure → List ℕ → Outcome (List ℕ)
+file_told r file = map (λ a. file) (outcome r)
+
+-- version 2: the program is run to an offset, and its state applied
+unfoldable pub caller_by_run : Arch → Memory → ℕ → ℕ → ℕ → List ℕ → Outcome (List ℕ)
+caller_by_run a m program limit off file = do
+  ran ← run m a program limit off
+  apply a m (layout ran.state) file
+
+-- 20: sp is lower than before, or equal past the first frame
+abbrev pub advanced : ℕ → ℕ → ℕ → Outcome (Unit {0})
+advanced number before after =
+    if ltb after before || (not (eqb number 0) && eqb after before) then Refused StackNotAdvancing else Answer tt
+
+-- a result tells the step of a frame with this record, where the caller has this file
+abbrev pub Passes : Arch → Lent → Frame → Record → List ℕ → Result (Unit {0}) Failure → Type 0
+Passes a l f r file s = map (λ x. Walk.Past r (caller_of l f file)) (outcome s) ≡ past a l f r
+
+-- a frame's record, none where the walk ends: pc 0 ends it; 1,024 frames given, 29; then lookup
+unfoldable pub record_of : Lent → ℕ → ℕ → Bool → ℕ → Outcome (Option Record)
+record_of l arch number interrupted at =
+    if eqb at 0 then Answer None
+    else if not (ltb number max_frames) then Refused TooManyFrames
+    else find l arch (looked_up interrupted at)
+
+-- a frame's record is told, whatever the stack is
+abbrev pub Locates : List ℕ → ℕ → ℕ → ℕ → Bool → ℕ → Result (Option Record) Failure → Type 0
+Locates section base arch number interrupted at x =
+    (stack : List ℕ) (stack_base : ℕ) → outcome x ≡ record_of (lent section base stack stack_base) arch number interrupted at
+
+-- what a frame's step and row come to: the end; the record and the caller where no row is found or asked for; the caller with the
+-- record's start and the row
+pub data Seen : Type 0 where
+  End : Seen
+  Rowless : Record → Frame → Seen
+  WithRow : Frame → (start pad action : ℕ) → Seen
+
+-- a frame past its step whose row was asked for
+abbrev pub seen_as : Record → Frame → Found → Seen
+seen_as r next Found.None = Rowless r next
+seen_as r next (Found.Pad pad action) = WithRow next r.start pad action
+
+-- the row is found, with the record and the caller at hand
+abbrev pub row_seen : ℕ → Lent → Frame → Record → Frame → Outcome Seen
+row_seen arch l f r next = do
+  row ← row_of (numbers arch) l.regions f.interrupted r (pc f.file)
+  Answer (seen_as r next row)
+
+-- a frame after its step: its row, if rows are asked for
+abbrev pub seen_at : Bool → ℕ → Lent → Frame → Step → Outcome Seen
+seen_at rows arch l f Walk.End = Answer End
+seen_at rows arch l f (Walk.Past r next) = if rows then row_seen arch l f r next else Answer (Rowless r next)
+
+-- a frame's step, then its row if rows are asked for
+unfoldable pub seen : Bool → ℕ → Lent → Frame → Outcome Seen
+seen rows arch l f = frame_step arch l f >>= seen_at rows arch l f
+
+-- a row that was found, with its record
+abbrev pub met_row : Record → Option Row → Met
+met_row r None = met.Rowless r
+met_row r (Some row) = met.WithRow r.start row
+
+-- what a frame that was met comes to, where the caller has this file
+abbrev pub seen_by : Lent → Frame → List ℕ → Met → Seen
+seen_by l f file (met.Rowless r) = Rowless r (caller_of l f file)
+seen_by l f file (met.WithRow start row) = WithRow (caller_of l f file) start row.pad (number_of row.action)
+
+abbrev pub seen_any : Lent → Frame → List ℕ → Option Met → Seen
+seen_any l f file None = End
+seen_any l f file (Some w) = seen_by l f file w
+
+-- a frame with a record was met: its step, then its row if rows are asked for, where the caller has this file
+abbrev pub Meets : Bool → ℕ → Lent → Frame → List ℕ → Result Met Failure → Type 0
+Meets rows arch l f file x = map (seen_by l f file) (outcome x) ≡ seen rows arch l f
+
+-- the same of a frame where the walk may end
+abbrev pub MeetsAny : Bool → ℕ → Lent → Frame → List ℕ → Result (Option Met) Failure → Type 0
+MeetsAny rows arch l f file x = map (seen_any l f file) (outcome x) ≡ seen rows arch l f
+
+-- a turn of the search, where the frames after it come to `rest`
+abbrev pub search_or : ControlFlow RaiseAnswer (Unit {0}) → Outcome Searched → Outcome Searched
+search_or (flow.Continue x) rest = rest
+search_or (flow.Break r) rest = Answer (searched_as r)
+
+-- what a row's action says of the frame with this number and sp; `rest` is what the frames after it come to
+abbrev pub by_action : ℕ → ℕ → ℕ → Outcome Searched → Outcome Searched
+by_action number sp action rest =
+    if eqb (searched_code action) handler_found then Answer (Search.Chosen number sp)
+    else if eqb (searched_code action) fatal_phase1 then Answer Search.Stopped
+    else rest
+
+-- what a frame that was met says; `rest` is what the frames after it come to
+abbrev pub search_met : ℕ → ℕ → Option Met → Outcome Searched → Outcome Searched
+search_met number sp None rest = Answer Search.Ended
+search_met number sp (Some (met.Rowless r)) rest = rest
+search_met number sp (Some (met.WithRow start row)) rest = by_action number sp (number_of row.action) rest
+
+-- the turn is that of a frame that was met
+abbrev pub SearchTurn : ℕ → ℕ → Option Met → ControlFlow RaiseAnswer (Unit {0}) → Type 0
+SearchTurn number sp w t = (rest : Outcome Searched) → search_or t rest ≡ search_met number sp w rest
+
+-- a row of the cleanup phase: below the chosen number a cleanup lands, a catch is 22, terminate answers 2; at it a catch lands if sp is
+-- the chosen one, and all else is 22
+unfoldable pub clean_row : Bool → Bool → ℕ → Row → Outcome Cleaning
+clean_row below same start row =
+    if below then
+    (if eqb (number_of row.action) cleanup then Answer (cleaning.Install start row.pad)
+    else if eqb (number_of row.action) catch then Refused HandlerFrameMissed
+    else Answer cleaning.Fatal)
+    else (if eqb (number_of row.action) catch && same then Answer (cleaning.Install start row.pad) else Refused HandlerFrameMissed)
+
+-- a frame that was met, in the cleanup phase
+abbrev pub clean_met : Bool → Bool → Option Met → Outcome Cleaning
+clean_met below same None = Refused HandlerFrameMissed
+clean_met below same (Some (met.Rowless r)) = if below then Answer cleaning.On else Refused HandlerFrameMissed
+clean_met below same (Some (met.WithRow start row)) = clean_row below same start row
+
+-- the same of a frame whose meeting may be refused
+abbrev pub clean_by : Bool → Bool → Outcome (Option Met) → Outcome Cleaning
+clean_by below same o = o >>= clean_met below same
+
+-- a landing at a frame with this number and file; the walk goes on from its caller
+unfoldable pub install_at : Arch → ℕ → ℕ → ℕ → ℕ → List ℕ → Frame → Outcome Cleaned
+install_at a exception number start pad file next = do
+  reason ← installed a exception start pad file
+  Answer (Cleanup.Install number reason.file next)
+
+-- a turn of the sweep at a frame, where the frames after it come to `rest`
+abbrev pub clean_or : Arch → ℕ → Frame → Frame → Outcome Cleaning → Outcome Cleaned → Outcome Cleaned
+clean_or a exception f next (Answer cleaning.On) rest = rest
+clean_or a exception f next (Answer (cleaning.Install start pad)) rest = install_at a exception f.number start pad f.file next
+clean_or a exception f next (Answer cleaning.Fatal) rest = Answer Cleanup.Fatal
+clean_or a exception f next (Refused n) rest = Refused n

@@ -1,0 +1,1 @@
+-- The proofs of the C interface, which need no laws of their own.

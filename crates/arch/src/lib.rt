@@ -32,12 +32,12 @@ pub const COLUMNS: usize = 41;
 pub const PC_COLUMN: usize = 40;
 
 // The DWARF numbers that the bits of a version 1 mask name on aarch64, from bit 0.
-const SAVED_AARCH64: [u16; 18] = [
+static SAVED_AARCH64: [u16; 18] = [
     19, 20, 21, 22, 23, 24, 25, 26, 27, 28, 72, 73, 74, 75, 76, 77, 78, 79,
 ];
 
 // The DWARF numbers that the bits of a version 1 mask name on x86-64, from bit 0.
-const SAVED_X86_64: [u16; 5] = [3, 12, 13, 14, 15];
+static SAVED_X86_64: [u16; 5] = [3, 12, 13, 14, 15];
 
 // The numbers of one architecture.
 #[derive(Clone, Copy)]
@@ -147,30 +147,29 @@ pub fn sp_column(arch: u8) -> usize
     a.sp as usize
 }
 
+// The SAVED table.
+#[tactic(auto, unfolding(crate::specs::Arch::numbers))]
+fn saved_table(arch: u8) -> &'static [u16]
+    ensures { result.now ≡ (Arch.numbers arch).saved }
+{
+    if arch == AARCH64 {
+        return &SAVED_AARCH64;
+    }
+    &SAVED_X86_64
+}
+
 // The register that a bit of a version 1 mask names; 0 past the table.
 pub fn saved(arch: u8, bit: usize) -> u16
     ensures { result ≡ get_or (Arch.numbers arch).saved bit 0 }
 {
-    if arch == AARCH64 {
-        if bit < 18 {
-            return SAVED_AARCH64[bit];
-        }
-        return 0;
-    }
-    if bit < 5 {
-        return SAVED_X86_64[bit];
-    }
-    0
+    saved_table(arch).get(bit).copied().unwrap_or(0)
 }
 
 // How many registers the SAVED table names.
 pub fn saved_count(arch: u8) -> usize
     ensures { result ≡ length (Arch.numbers arch).saved }
 {
-    if arch == AARCH64 {
-        return 18;
-    }
-    5
+    saved_table(arch).len()
 }
 
 // An address without the bits that strip_pac takes away.

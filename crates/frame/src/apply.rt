@@ -13,7 +13,7 @@ ghost use Rattle.frame.specs.Answers.{Partly};
 ghost use Rattle.frame.specs.Near.{Usable, Within};
 
 use crate::slots::{Anywhere, InStack, Slots, near};
-use crate::{bad_fp, ra_column, require_opened, return_to};
+use crate::{bad_fp, ra_column, require_accepted, return_to};
 use arch::{COLUMNS, Next, Regs};
 use failure::Failure;
 use mem::{Memory, wrapping};
@@ -152,7 +152,7 @@ fn apply_to(
 ) -> Result<(), Failure>
     ensures { InPlace file.old (Public.apply (lent_by memory.now) arch state.now file.old) result file.new }
 {
-    require_opened(memory, arch)?;
+    require_accepted(memory, arch)?;
     if MAX_SAVED < state.count {
         return Err(Failure::BadOpening);
     }

@@ -33,13 +33,11 @@ pub const KIND_FP: u32 = 1;
 pub const KIND_SP: u32 = 2;
 
 // 28 for what is lent and not accepted, then for an unknown architecture.
-#[tactic(auto, unfolding(crate::specs::Public::opened))]
-fn require_opened(memory: &Memory<'_>, arch: u8) -> Result<(), Failure>
+#[tactic(auto, unfolding(crate::specs::Public::opened, mem::specs::Opening::opened))]
+pub fn require_accepted(memory: &Memory<'_>, arch: u8) -> Result<(), Failure>
     ensures { outcome result ≡ settled (Public.opened (lent_by memory.now) arch) }
 {
-    if !memory.opens() {
-        return Err(Failure::BadOpening);
-    }
+    memory.require_opened()?;
     require_known(arch)
 }
 

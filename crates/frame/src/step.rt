@@ -15,7 +15,7 @@ ghost use Rattle.frame.specs.Near.{deepest, Saves};
 
 use crate::slots::{Anywhere, InStack, Slots, near};
 use crate::{
-    KIND_FP, deepest, frame_cfa, kind, mask, named_count, ra_column, ra_slot, require_opened,
+    KIND_FP, deepest, frame_cfa, kind, mask, named_count, ra_column, ra_slot, require_accepted,
     return_to, saved_column, slot_of,
 };
 use arch::{COLUMNS, Next, Regs};
@@ -168,7 +168,7 @@ fn step_to(
 ) -> Result<(), Failure>
     ensures { InPlace file.old (Public.step (lent_by memory.now) arch frame first file.old) result file.new }
 {
-    require_opened(memory, arch)?;
+    require_accepted(memory, arch)?;
     step_into(memory, arch, frame, first, file)
 }
 

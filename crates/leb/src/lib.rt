@@ -59,12 +59,10 @@ pub fn uleb_at(memory: &Memory<'_>, pos: usize, limit: usize) -> Result<(usize, 
 }
 
 // The number at a position below the limit and the position after it, in what is lent.
-#[tactic(auto, unfolding(crate::specs::Reader::read_uleb))]
+#[tactic(auto, unfolding(crate::specs::Reader::read_uleb, mem::specs::Opening::opened))]
 pub fn read_uleb(memory: &Memory<'_>, pos: usize, limit: usize) -> Result<(usize, usize), Failure>
     ensures { Reader.told result ≡ Reader.read_uleb (lent_by memory.now) limit pos }
 {
-    if !memory.opens() {
-        return Err(Failure::BadOpening);
-    }
+    memory.require_opened()?;
     uleb_at(memory, pos, limit)
 }

@@ -1,20 +1,18 @@
 -- Laws of `lookup_arch`. Assumes nothing.
 use Rattle.std.specs.Prelude.{if◌then◌else◌}
-use mathlib.Core.Path.{◌≡◌, refl, sym, ◌∙◌}
+use mathlib.Core.Path.{◌≡◌}
 use mathlib.Core.Bool.{Bool, true, false, not}
 use mathlib.Core.List.{List}
 use Rattle.std.specs.Prelude.{Option, Some}
 use Prim.Native.Nat.{ℕ}
 use native.Mathlib.Omega.{arith}
-use Rattle.failure.specs.Outcome.{Outcome, Refused, Answer, settled}
+use Rattle.failure.specs.Outcome.{Outcome, Refused, Answer}
 use Rattle.failure.specs.Failure.{BadOpening}
 use Rattle.mem.specs.Memory.{lent}
 use Rattle.mem.specs.Opening.{opens}
-use Rattle.arch.specs.Arch.{is_known, known}
+use Rattle.arch.specs.Arch.{is_known}
 use Rattle.lookup.specs.Steps.{Inside}
 use Rattle.lookup.specs.Lookup.{Found, lookup, lookup_arch}
-use Rattle.failure.proofs.Outcome.{answer-refused}
-use Rattle.arch.proofs.Known.{known_settled, unknown_settled}
 use Rattle.lookup.proofs.Places.{lookup_in}
 
 -- 28 comes first
@@ -33,26 +31,6 @@ module _ (section : List ℕ) (section_base : ℕ) (stack : List ℕ) (stack_bas
       lookup section section_base pc arch ≡ lookup_arch section section_base stack stack_base pc arch
   unfolding lookup_arch
   arch_open o k = rw (o, k)
-
-  -- by what the test of the architecture comes to
-  pub arch_refused : opens (lent section section_base stack stack_base) ≡ true → (n : ℕ) → Refused n ≡ settled (known arch) →
-      Refused n ≡ lookup_arch section section_base stack stack_base pc arch
-  arch_refused o n e = go (is_known arch) refl
-    where
-      go : (t : Bool) → is_known arch ≡ t → Refused n ≡ lookup_arch section section_base stack stack_base pc arch
-      go true k = answer-refused tt n (known_settled arch k ∙ sym e)
-      go false k =
-          let p : ◌≡◌ {A = Outcome (Unit {0})} (Refused n) (Refused BadOpening) = e ∙ sym (unknown_settled arch k) in
-          let same : n ≡ BadOpening = cc in
-          rw same (arch_unknown o k)
-
-  pub arch_required : opens (lent section section_base stack stack_base) ≡ true → Answer tt ≡ settled (known arch) →
-      lookup section section_base pc arch ≡ lookup_arch section section_base stack stack_base pc arch
-  arch_required o e = go (is_known arch) refl
-    where
-      go : (t : Bool) → is_known arch ≡ t → lookup section section_base pc arch ≡ lookup_arch section section_base stack stack_base pc arch
-      go true k = arch_open o k
-      go false k = answer-refused tt BadOpening (e ∙ sym (unknown_settled arch k))
 
   -- a chunk that is found lies in the section
   pub arch_in : (f : Found) → lookup_arch section section_base stack stack_base pc arch ≡ Answer (Some f) → Inside section f.chunk

@@ -542,13 +542,12 @@ pub fn lookup_part(part: &[u8], base: usize, pc: usize, arch: u8) -> Result<Opti
 }
 
 // The record of pc in the section that is lent; without a call of `lookup_part`, whose answer would go through memory.
+#[tactic(auto, unfolding(crate::specs::Lookup::lookup_arch, mem::specs::Opening::opened, arch::specs::Arch::known))]
 pub fn lookup_arch(memory: &Memory<'_>, pc: usize, arch: u8) -> Result<Option<Found>, Failure>
     ensures { outcome result ≡
         lookup_arch memory.now.section.now memory.now.section_base memory.now.stack.now memory.now.stack_base pc arch }
 {
-    if !memory.opens() {
-        return Err(Failure::BadOpening);
-    }
+    memory.require_opened()?;
     arch::require_known(arch)?;
     let section = memory.section;
     let base = memory.section_base;

@@ -1,5 +1,7 @@
 -- When what is lent is accepted (document 01, "Opening and memory"). Whatever is not accepted gets 28.
-use Rattle.std.specs.Prelude.{ℕ, ◌+◌, ◌^◌, Bool, true, ◌&&◌, ◌||◌, [], ◌∷◌, ◌==◌, nat_le}
+use Rattle.std.specs.Prelude.{ℕ, ◌+◌, ◌^◌, Bool, true, ◌&&◌, ◌||◌, [], ◌∷◌, ◌==◌, nat_le, if◌then◌else◌}
+use Rattle.failure.specs.Outcome.{Outcome, Refused, Answer}
+use Rattle.failure.specs.Failure.{BadOpening}
 use Rattle.mem.specs.Memory.{Region, Memory, Lent, size}
 
 -- a base address is 1 to 2^62, a length 0 to 2^31
@@ -23,3 +25,7 @@ accepted (r ∷ m) = bounded r.base (size r) && apart_from r m && accepted m
 -- what is lent is accepted
 unfoldable pub opens : Lent → Bool
 opens l = accepted l.regions
+
+-- 28 for what is lent and not accepted
+unfoldable pub opened : Lent → Outcome (Unit {0})
+opened l = if opens l then Answer tt else Refused BadOpening

@@ -1,9 +1,11 @@
 // When what is lent is accepted.
 ghost use Rattle.std.specs.Prelude.{◌≡◌};
+ghost use Rattle.failure.specs.Outcome.{outcome};
 ghost use Rattle.mem.specs.Given.{lent_by};
 ghost use Rattle.mem.specs.Opening as Opening;
 
 use crate::Memory;
+use failure::Failure;
 
 // A base address is 1 to 2^62, a length 0 to 2^31.
 fn bounded(base: usize, size: usize) -> bool
@@ -47,5 +49,16 @@ impl Memory<'_> {
                 self.stack.len(),
             )
             && bounded(self.stack_base, self.stack.len())
+    }
+
+    // 28 for what is lent and not accepted.
+    #[tactic(auto, unfolding(crate::specs::Opening::opened))]
+    pub fn require_opened(&self) -> Result<(), Failure>
+        ensures { outcome result ≡ Opening.opened (lent_by self.now) }
+    {
+        if !self.opens() {
+            return Err(Failure::BadOpening);
+        }
+        Ok(())
     }
 }

@@ -20,8 +20,5 @@ pub fn sub(a: usize, b: usize) -> usize
 pub fn extend(word: u32) -> usize
     ensures { result ≡ Wrapping.signed32 word }
 {
-    // the signed number plus 2^31, which is 0 to 2^32 - 1
-    let shifted = word.wrapping_add(0x8000_0000);
-    // plus 2^64 - 2^31: the 2^31 is taken away again, modulo 2^64
-    add(shifted as usize, 0xffff_ffff_8000_0000)
+    i64::from(word.cast_signed()).cast_unsigned() as usize
 }

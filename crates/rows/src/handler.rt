@@ -232,12 +232,10 @@ pub fn handler_at(memory: &Memory<'_>, table: usize, ret: usize) -> Result<Optio
 }
 
 // The same in what is lent.
-#[tactic(auto, unfolding(crate::specs::Handler::handler_in))]
+#[tactic(auto, unfolding(crate::specs::Handler::handler_in, mem::specs::Opening::opened))]
 pub fn handler(memory: &Memory<'_>, table: usize, ret: u32) -> Result<Option<Row>, Failure>
     ensures { found result ≡ Handler.handler_in (lent_by memory.now) table ret }
 {
-    if !memory.opens() {
-        return Err(Failure::BadOpening);
-    }
+    memory.require_opened()?;
     handler_at(memory, table, ret as usize)
 }

@@ -230,7 +230,7 @@ pub fn handler2_at(
 }
 
 // The same in what is lent.
-#[tactic(auto, unfolding(crate::specs::Handler2::handler2_in))]
+#[tactic(auto, unfolding(crate::specs::Handler2::handler2_in, mem::specs::Opening::opened))]
 pub fn handler2(
     memory: &Memory<'_>,
     table: usize,
@@ -239,8 +239,6 @@ pub fn handler2(
 ) -> Result<Option<Row>, Failure>
     ensures { found result ≡ Handler2.handler2_in (lent_by memory.now) table limit ret }
 {
-    if !memory.opens() {
-        return Err(Failure::BadOpening);
-    }
+    memory.require_opened()?;
     handler2_at(memory, table, limit, ret)
 }

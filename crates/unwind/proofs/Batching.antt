@@ -11,6 +11,7 @@ use Rattle.arch.specs.Arch.{numbers, known, is_known}
 use Rattle.arch.specs.File.{pc}
 use Rattle.model.specs.FrameStep as Walk
 use Rattle.model.specs.FrameStep.{Frame, Step, caller_of, frame_step}
+use Rattle.frame.specs.Public.{opened}
 use Rattle.unwind.specs.Answers.{accepts}
 use Rattle.unwind.specs.Turns.{seen_any, MeetsAny}
 use Rattle.unwind.specs.Batches.{Past, passed_as, given, given_as, no_frames, Walking, More, Broken, one_more, walk_past, walk_from, walking}
@@ -84,7 +85,7 @@ module _ (l : Lent) (arch : ℕ) (f : Frame) where
   walking_of (Answer x) = walk_from 16 arch l f no_frames
 
   pub walking_by : (o : Outcome (Unit {0})) → o ≡ accepts l arch → walking_of o ≡ walking l arch f
-  unfolding walking accepts known
+  unfolding walking opened known
   walking_by o e = ap walking_of e ∙ go (opens l) (is_known arch) refl refl
     where
       go : (s t : Bool) → opens l ≡ s → is_known arch ≡ t → walking_of (accepts l arch) ≡ walking l arch f

@@ -4,7 +4,6 @@ use Rattle.failure.specs.Outcome.{Beside}
 use Rattle.arch.specs.File.{set_pc}
 use Rattle.arch.specs.declared.Regs.{Regs}
 use Rattle.model.specs.declared.Unwinding.{Unwinding}
-use Rattle.model.specs.FrameStep.{Frame}
 use Rattle.model.specs.Search.{Searched}
 use Rattle.model.specs.Unwinding.{unchosen}
 use Rattle.unwind.specs.Answers.{frame_with, searched, raised_by}

@@ -1,11 +1,10 @@
 -- Document 01's number and values for each case of this crate's answers.
-use Rattle.std.specs.Prelude.{Bool, true, false, List, [], ◌∷◌, ℕ, Result, Ok, Err, Option, Some, None, if◌then◌else◌}
+use Rattle.std.specs.Prelude.{Bool, true, false, List, [], ◌∷◌, ℕ, Result, Ok, Err, Option, Some, None}
 use Rattle.failure.specs.Outcome.{Outcome, Refused, Answer, Beside, outcome, map, settled}
-use Rattle.failure.specs.Failure.{number, BadOpening}
+use Rattle.failure.specs.Failure.{number}
 use Rattle.failure.specs.declared.Failure.{Failure}
 use Rattle.mem.specs.Memory.{Lent}
-use Rattle.mem.specs.Opening.{opens}
-use Rattle.arch.specs.Arch.{known}
+use Rattle.frame.specs.Public as Public
 use Rattle.lookup.specs.declared.Record.{Record}
 use Rattle.model.specs.declared.Unwinding.{Unwinding}
 use Rattle.model.specs.FrameStep as Walk
@@ -29,8 +28,8 @@ use Rattle.unwind.specs.declared.Resumed.{Resumed}
 use Rattle.unwind.specs.declared.Unwound.{Unwound}
 
 -- 28 unless what is lent is accepted and the architecture known
-unfoldable pub accepts : Lent → ℕ → Outcome (Unit {0})
-accepts l arch = if opens l then settled (known arch) else Refused BadOpening
+abbrev pub accepts : Lent → ℕ → Outcome (Unit {0})
+accepts l arch = settled (Public.opened l arch)
 
 -- a frame with these values
 abbrev pub frame_with : ℕ → Bool → List ℕ → Frame

@@ -11,9 +11,10 @@ ghost use Rattle.unwind.specs.Answers.{frame_at, unmoved, resume_told, resumed_b
 ghost use Rattle.unwind.specs.Turns.{clean_row, clean_by};
 
 use crate::step::meet;
-use crate::{Frame, Met, NEXT_INTERRUPTED, ResumeAnswer, Resumed, require_accepted};
+use crate::{Frame, Met, NEXT_INTERRUPTED, ResumeAnswer, Resumed};
 use arch::{COLUMNS, DATA_REG0, DATA_REG1, PC_COLUMN, Regs, sp_column};
 use failure::Failure;
+use frame::require_accepted;
 use mem::{Memory, wrapping};
 use model::Unwinding;
 use rows::{Action, Row};

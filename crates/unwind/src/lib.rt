@@ -9,11 +9,11 @@ ghost use Rattle.std.specs.Prelude.{◌≡◌};
 ghost use Rattle.failure.specs.Outcome.{outcome};
 ghost use Rattle.mem.specs.Given.{lent_by};
 ghost use Rattle.model.specs.Call.{Throws, Sweeps};
-ghost use Rattle.unwind.specs.Answers.{accepts, raise_told, cleaned, is_landing, call_number, resume_handed, unwound_by, unwound_handed};
+ghost use Rattle.unwind.specs.Answers.{raise_told, cleaned, is_landing, call_number, resume_handed, unwound_by, unwound_handed};
 
 use crate::cleanup::resume;
 use crate::search::raise;
-use arch::{Regs, require_known};
+use arch::Regs;
 use failure::Failure;
 use lookup::Record;
 use mem::Memory;
@@ -130,16 +130,6 @@ pub struct Unwound {
 enum Met {
     Rowless(Record),
     WithRow(usize, Row),
-}
-
-// 28 unless what is lent is accepted and the architecture known.
-fn require_accepted(memory: &Memory<'_>, arch: u8) -> Result<(), Failure>
-    ensures { outcome result ≡ accepts (lent_by memory.now) arch }
-{
-    if !memory.opens() {
-        return Err(Failure::BadOpening);
-    }
-    require_known(arch)
 }
 
 // A throw and the calls after it.

@@ -8,9 +8,10 @@ ghost use Rattle.unwind.specs.Answers.{frame_with, searched, raise_told, raised_
 ghost use Rattle.unwind.specs.Turns.{SearchTurn};
 
 use crate::step::meet;
-use crate::{Met, NEXT_INTERRUPTED, RaiseAnswer, Raised, Throw, require_accepted};
+use crate::{Met, NEXT_INTERRUPTED, RaiseAnswer, Raised, Throw};
 use arch::{Regs, sp_column};
 use failure::Failure;
+use frame::require_accepted;
 use mem::Memory;
 use model::Unwinding;
 use rows::Action;

@@ -10,10 +10,10 @@ ghost use Rattle.unwind.specs.Batches.{given_as, given, no_frames, walk_from, wa
 use crate::step::meet;
 use crate::{
     BATCH_FRAMES, Batch, Frame, Frames, Met, NEXT_INTERRUPTED, Stepped, WalkAnswer,
-    require_accepted,
 };
 use arch::{COLUMNS, PC_COLUMN, Regs, sp_column};
 use failure::Failure;
+use frame::require_accepted;
 use lookup::Record;
 use mem::Memory;
 

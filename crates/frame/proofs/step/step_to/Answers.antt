@@ -6,12 +6,12 @@ use Rattle.frame.proofs.Opened.{past_opened, step-passes}
 use Rattle.frame.proofs.Partly.{place_as}
 use Rattle.frame.proofs.step.step_to.Goals as goal
 
-pub returns-in_err-require_opened : goal.returns-in_err-require_opened
+pub returns-in_err-require_accepted : goal.returns-in_err-require_accepted
 unfolding step
-returns-in_err-require_opened c =
-    place_exit _ _ _ _ c.from_residual.ensures.1 (refusal_by _ _ _ _ _ c.in_err-require_opened.was c.require_opened.ensures)
+returns-in_err-require_accepted c =
+    place_exit _ _ _ _ c.from_residual.ensures.1 (refusal_by _ _ _ _ _ c.in_err-require_accepted.was c.require_accepted.ensures)
 
 pub returns : goal.returns
 returns c =
-    let past = past_opened _ _ c.in_ok-require_opened.ensures in
+    let past = past_opened _ _ c.in_ok-require_accepted.ensures in
     place_as _ _ (step-passes _ _ past.0 past.1 _ _ _) _ _ _ c.step_into.ensures

@@ -313,19 +313,19 @@ fn choice(first: bool, x: usize, y: usize) -> usize
 
 impl ChunkIn<'_> {
     // The start of record number i.
-    fn start_of(&self, i: usize) -> usize
-        requires { i < self.now.chunk.count }
+    fn start_of<const STRIDE: usize>(&self, i: usize) -> usize
+        requires { (i < self.now.chunk.count) × (self.now.chunk.stride ≡ STRIDE) }
         ensures { result ≡ (record_of self.now.part.now self.now.base self.now.chunk i).start }
     {
-        let c = self.chunk;
-        self.start_at(c.offset + HEADER + i * c.stride)
+        self.start_at(self.chunk.offset + HEADER + i * STRIDE)
     }
 
     // Where halving on start ends: if the starts rise, at the last record that starts at pc or below it, else at the first. There are
     // as many turns for every pc. A turn halves twice, and reads what the second may compare before the first has compared. The
     // library's search promises a place in sorted slices alone; here the definition says which records are compared, in every chunk.
-    fn halve(&self, pc: usize) -> usize
-        requires { 0 < self.now.chunk.count }
+    // The stride is a parameter: a turn is shorter where the compiler knows it.
+    fn halve<const STRIDE: usize>(&self, pc: usize) -> usize
+        requires { (0 < self.now.chunk.count) × (self.now.chunk.stride ≡ STRIDE) }
         ensures { Stands self.now.chunk (halved self.now.part.now self.now.base self.now.chunk pc) result }
     {
         let c = self.chunk;
@@ -340,9 +340,9 @@ impl ChunkIn<'_> {
             let middle = (lo + hi) / 2;
             let low = (lo + middle) / 2;
             let high = (middle + hi) / 2;
-            let start = self.start_of(middle);
-            let below = self.start_of(low);
-            let above = self.start_of(high);
+            let start = self.start_of::<STRIDE>(middle);
+            let below = self.start_of::<STRIDE>(low);
+            let above = self.start_of::<STRIDE>(high);
             // those below are left where pc is below the middle's start, else the rest
             let down = pc < start;
             lo = choice(down, lo, middle);
@@ -354,37 +354,18 @@ impl ChunkIn<'_> {
             // two binary digits less
             turns /= 4;
         }
-        c.offset + HEADER + lo * c.stride
+        c.offset + HEADER + lo * STRIDE
     }
 
-    // The same, by a stride that the compiler knows: a turn is shorter so. No const parameter: the contracts go by the chunk's own stride.
+    // The same, by the version's stride.
     fn halve_by(&self, pc: usize) -> usize
         requires { 0 < self.now.chunk.count }
         ensures { Stands self.now.chunk (halved self.now.part.now self.now.base self.now.chunk pc) result }
     {
-        let ChunkIn { part, base, chunk } = *self;
-        if chunk.version == VERSION {
-            let one = Chunk {
-                stride: RECORD,
-                ..chunk
-            };
-            return ChunkIn {
-                part,
-                base,
-                chunk: one,
-            }
-            .halve(pc);
+        if self.chunk.version == VERSION {
+            return self.halve::<RECORD>(pc);
         }
-        let two = Chunk {
-            stride: RECORD2,
-            ..chunk
-        };
-        ChunkIn {
-            part,
-            base,
-            chunk: two,
-        }
-        .halve(pc)
+        self.halve::<RECORD2>(pc)
     }
 
     // The left neighbour of the record at offset k ends above its start.
@@ -563,8 +544,7 @@ pub fn chunk_of<'a>(memory: &Memory<'a>, pc: usize, arch: u8) -> &'a [u8]
     match lookup_arch(memory, pc, arch) {
         Ok(Some(found)) => {
             let k = found.chunk.offset;
-            let e = k + found.chunk.size;
-            &memory.section[k..e]
+            &memory.section[k..k + found.chunk.size]
         }
         _ => &memory.section[0..0],
     }

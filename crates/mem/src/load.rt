@@ -52,14 +52,8 @@ impl<'a> Memory<'a> {
         ensures { PartOf self.now.section self.now.stack n (place_of (lent_by self.now).regions a n) result }
     {
         match self.place_of(a, n) {
-            Place::Section(k) => {
-                let e = k + n;
-                &self.section[k..e]
-            }
-            Place::Stack(k) => {
-                let e = k + n;
-                &self.stack[k..e]
-            }
+            Place::Section(k) => &self.section[k..k + n],
+            Place::Stack(k) => &self.stack[k..k + n],
             Place::Neither => &self.section[0..0],
         }
     }

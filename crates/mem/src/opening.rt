@@ -8,26 +8,19 @@ use crate::Memory;
 use failure::Failure;
 
 // A base address is 1 to 2^62, a length 0 to 2^31.
+#[tactic(auto, unfolding(crate::specs::Opening::bounded))]
 fn bounded(base: usize, size: usize) -> bool
     ensures { result ≡ Opening.bounded base size }
 {
-    if base < 1 {
-        return false;
-    }
-    if 0x4000_0000_0000_0000 < base {
-        return false;
-    }
-    size <= 0x8000_0000
+    1 <= base && base <= 0x4000_0000_0000_0000 && size <= 0x8000_0000
 }
 
 // Two ranges of addresses share none; an empty one shares none.
+#[tactic(auto, unfolding(crate::specs::Opening::apart))]
 fn apart(base: usize, size: usize, other: usize, other_size: usize) -> bool
     ensures { result ≡ Opening.apart base size other other_size }
 {
-    if size == 0 {
-        return true;
-    }
-    if other_size == 0 {
+    if size == 0 || other_size == 0 {
         return true;
     }
     if base <= other {

@@ -33,6 +33,15 @@ pub struct State {
     pub slots: [u16; 32],
 }
 
+// A state with nothing in it.
+pub const BLANK: State = State {
+    cfa_fp: false,
+    cfa_units: 0,
+    count: 0,
+    regs: [0; 32],
+    slots: [0; 32],
+};
+
 // A state after a call: the next one, or for a refusal the one that came in, which is handed back as well; so this is no
 // `Result<State, Failure>`. `Next` of `arch` is another struct: a generic one would have no name for what is handed back.
 #[derive(Clone, Copy)]
@@ -63,11 +72,8 @@ pub fn at_entry(arch: u8) -> State
 {
     let a = numbers(arch);
     let mut st = State {
-        cfa_fp: false,
         cfa_units: a.entry_cfa,
-        count: 0,
-        regs: [0; 32],
-        slots: [0; 32],
+        ..BLANK
     };
     if a.entry_ra_slot != 0 {
         st.regs[0] = a.ra;

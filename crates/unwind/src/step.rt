@@ -24,7 +24,7 @@ use program::{run_into, run_through};
 use rows::Row;
 use rows::handler::handler_at;
 use rows::handler2::handler2_at;
-use state::State;
+use state::BLANK;
 
 // Looked up is pc - 1, or pc for an interrupted frame.
 fn looked_up(interrupted: bool, pc: usize) -> usize
@@ -41,15 +41,6 @@ fn offset_from(start: usize, at: usize) -> usize
     at.saturating_sub(start)
 }
 
-// No state yet.
-const BLANK: State = State {
-    cfa_fp: false,
-    cfa_units: 0,
-    count: 0,
-    regs: [0; 32],
-    slots: [0; 32],
-};
-
 // The caller's registers of version 2: by run, then apply.
 fn caller_by_run(
     memory: &Memory<'_>,
@@ -62,6 +53,7 @@ fn caller_by_run(
     ensures { file_told result file.new ≡
         caller_by_run (numbers arch) (lent_by memory.now).regions program limit off file.old }
 {
+    // no state yet
     let mut state = BLANK;
     let ran = run_into(memory, arch, program, limit, off, &mut state);
     ran.status?;

@@ -4,4 +4,4 @@ use Rattle.lookup.proofs.Records.{record-start}
 use Rattle.lookup.proofs.ChunkIn.start_of.Goals as goal
 
 pub returns : goal.returns
-returns c = c.start_at.ensures ∙ sym (record-start _ _ _ _)
+returns g c = c.start_at.ensures ∙ rw (sym c.requires.1) (sym (record-start _ _ _ _))

@@ -5,8 +5,8 @@ use Rattle.mem.proofs.Place.{place_found}
 use Rattle.mem.proofs.Part.{lends_part}
 use Rattle.mem.proofs.Memory.bytes_at.Goals as goal
 
-pub overflow_add-e : goal.overflow_add-e
-overflow_add-e c =
+pub overflow_add-result : goal.overflow_add-result
+overflow_add-result c =
     let told = sym c.place_of.ensures ∙ ap placed c.in-Section.is in
     omega (arith, (place_found _ _ _ _ told).0)
 
@@ -15,8 +15,8 @@ slice_bounds-result-end c =
     let told = sym c.place_of.ensures ∙ ap placed c.in-Section.is in
     omega (arith, (place_found _ _ _ _ told).0)
 
-pub overflow_add-e-in-Stack : goal.overflow_add-e-in-Stack
-overflow_add-e-in-Stack c =
+pub overflow_add-result-in-Stack : goal.overflow_add-result-in-Stack
+overflow_add-result-in-Stack c =
     let told = sym c.place_of.ensures ∙ ap placed c.in-Stack.is in
     omega (arith, (place_found _ _ _ _ told).0)
 

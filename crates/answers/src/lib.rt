@@ -330,7 +330,7 @@ impl From<personality::Decided> for Decided {
             regs: d.regs,
             status: status_of(&d.reason),
             reason: match d.reason {
-                Ok(reason) => reason as u32,
+                Ok(reason) => reason.code(),
                 Err(_) => 0,
             },
         }
@@ -386,8 +386,8 @@ fn raise_reason(answer: &Result<RaiseAnswer, Failure>) -> u32
     ensures { result ≡ Interface.raise_reason (searched answer.now) }
 {
     match answer {
-        Ok(RaiseAnswer::Chosen(_, _)) => Reason::HandlerFound as u32,
-        Ok(RaiseAnswer::Stopped) => Reason::FatalPhase1Error as u32,
+        Ok(RaiseAnswer::Chosen(_, _)) => Reason::HandlerFound.code(),
+        Ok(RaiseAnswer::Stopped) => Reason::FatalPhase1Error.code(),
         Ok(RaiseAnswer::Ended) => URC_END_OF_STACK,
         Err(_) => 0,
     }
@@ -399,8 +399,7 @@ fn raise_chosen(answer: &Result<RaiseAnswer, Failure>) -> (usize, usize)
 {
     match answer {
         Ok(RaiseAnswer::Chosen(number, sp)) => (*number, *sp),
-        Ok(_) => (0, 0),
-        Err(_) => (0, 0),
+        _ => (0, 0),
     }
 }
 
@@ -424,8 +423,7 @@ fn resume_status(answer: &Result<ResumeAnswer, Failure>) -> u32
     ensures { result ≡ Interface.resume_status (outcome answer.now) }
 {
     match answer {
-        Ok(ResumeAnswer::Install(_)) => ANSWERED,
-        Ok(ResumeAnswer::Fatal) => ANSWERED,
+        Ok(ResumeAnswer::Install(_) | ResumeAnswer::Fatal) => ANSWERED,
         Ok(ResumeAnswer::Finished) => NONE,
         Err(failure) => failure.number(),
     }
@@ -436,10 +434,9 @@ fn resume_reason(answer: &Result<ResumeAnswer, Failure>) -> u32
     ensures { result ≡ Interface.resume_reason (outcome answer.now) }
 {
     match answer {
-        Ok(ResumeAnswer::Install(_)) => Reason::InstallContext as u32,
-        Ok(ResumeAnswer::Fatal) => Reason::FatalPhase2Error as u32,
-        Ok(ResumeAnswer::Finished) => 0,
-        Err(_) => 0,
+        Ok(ResumeAnswer::Install(_)) => Reason::InstallContext.code(),
+        Ok(ResumeAnswer::Fatal) => Reason::FatalPhase2Error.code(),
+        _ => 0,
     }
 }
 
@@ -449,9 +446,7 @@ fn resume_number(answer: &Result<ResumeAnswer, Failure>) -> usize
 {
     match answer {
         Ok(ResumeAnswer::Install(number)) => *number,
-        Ok(ResumeAnswer::Fatal) => 0,
-        Ok(ResumeAnswer::Finished) => 0,
-        Err(_) => 0,
+        _ => 0,
     }
 }
 

@@ -90,7 +90,7 @@ const X86_64_NUMBERS: Arch2 = Arch2 {
 
 // A register file of either architecture.
 #[repr(C)]
-#[derive(Clone, Copy)]
+#[derive(Clone, Copy, Debug, PartialEq, Eq)]
 pub struct Regs {
     pub r: [usize; COLUMNS],
 }
@@ -135,16 +135,14 @@ pub fn column_of(arch: u8, reg: u16) -> Result<usize, Failure>
 pub fn fp_column(arch: u8) -> usize
     ensures { (result ≡ (Arch.numbers arch).fp) × (result < File.columns) }
 {
-    let a = numbers(arch);
-    a.fp as usize
+    numbers(arch).fp as usize
 }
 
 // The column of the stack pointer, which is its number.
 pub fn sp_column(arch: u8) -> usize
     ensures { (result ≡ (Arch.numbers arch).sp) × (result < File.columns) }
 {
-    let a = numbers(arch);
-    a.sp as usize
+    numbers(arch).sp as usize
 }
 
 // The SAVED table.

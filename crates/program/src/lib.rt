@@ -46,7 +46,7 @@ pub struct Through {
 }
 
 // What an operation leaves to the loop: to go on at an offset, or with other rules; to remember the state, or to recall one; or to end
-// with an after-address.
+// with an after-address. No `ControlFlow`: what it goes on with would be an enum of its own beside it.
 #[derive(Clone, Copy)]
 enum Step {
     At(usize),
@@ -100,15 +100,13 @@ fn advance(at: usize, n: u32, arch: u8, off: usize) -> Result<Step, Failure>
     ensures room { (depth : ℕ) → IfOk result (λ s. Room s depth) }
 {
     let a = numbers(arch);
-    let by = n as usize * a.unit;
-    // at + by is 2^64 or more
-    if usize::MAX - at < by {
-        return Err(Failure::BadEkoRecord);
-    }
-    if off < at + by {
+    let to = at
+        .checked_add(n as usize * a.unit)
+        .ok_or(Failure::BadEkoRecord)?;
+    if off < to {
         return Ok(Step::Ends(0));
     }
-    Ok(Step::At(at + by))
+    Ok(Step::At(to))
 }
 
 // One more state to remember, beside so many.
@@ -187,13 +185,14 @@ fn refused(state: &mut State, kept: &Option<State>, arch: u8, f: Failure) -> Thr
 }
 
 // An address: the bytes from the program up to it, if there are any, surely lie in the section and below the limit.
-fn near_end(section: &[u8], base: usize, program: usize, limit: usize) -> usize
-    ensures { Near section.now base limit program result }
+fn near_end(memory: &Memory<'_>, program: usize, limit: usize) -> usize
+    ensures { Near memory.now.section.now memory.now.section_base limit program result }
 {
+    let base = memory.section_base;
     if program < base || limit < base {
         return 0;
     }
-    let size = section.len();
+    let size = memory.section.len();
     if size < limit - base {
         return base + size;
     }
@@ -238,7 +237,7 @@ fn operation_at(
             }
             Ok((completed(o, b as u32), next + 1))
         }
-        _ => again(decode(memory, pos, limit)),
+        Form::WithPair | Form::Unknown => again(decode(memory, pos, limit)),
     }
 }
 
@@ -273,7 +272,7 @@ fn run_both(
     let mut remembered = [*state; MAX_REMEMBER];
     let mut depth: usize = 0;
     let mut at: usize = 0;
-    let end = near_end(memory.section, memory.section_base, program, limit);
+    let end = near_end(memory, program, limit);
     let mut pos = program;
     // the form that the papers name: a labelled loop over operations, left with the state and the after-address
     'ops: loop {

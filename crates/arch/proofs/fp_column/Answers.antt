@@ -8,5 +8,5 @@ use Rattle.arch.proofs.fp_column.Goals as goal
 pub returns : goal.returns
 returns c =
     let f = fits c.args.arch in
-    let e = ap (λ (r : Arch2). r.fp) c.numbers-a.ensures in
+    let e = ap (λ (r : Arch2). r.fp) c.numbers.ensures in
     (e, omega (arith, e, f.fp, f.low))

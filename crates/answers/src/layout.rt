@@ -1,6 +1,6 @@
 // How the structs of the C interface stand in memory, told by a value of each that a function returns: every number in it is the
 // offset at which it stands in that struct, a byte the offset modulo 256. A bool is the flag that came in, but `chosen` the other.
-ghost use Rattle.std.specs.Prelude.{◌≡◌};
+ghost use Rattle.std.specs.Prelude.{◌≡◌, ◌≤◌};
 ghost use Rattle.answers.specs.Offsets as Spec;
 
 use crate::{
@@ -142,19 +142,26 @@ fn read_told() -> Read
     }
 }
 
+// A state after a status.
+fn state_told(flag: bool) -> State
+    ensures { result ≡ Spec.state_at 8 flag }
+{
+    State {
+        cfa_fp: flag,
+        cfa_units: 12,
+        count: 16,
+        regs: SAVED_REGS,
+        slots: SAVED_SLOTS,
+    }
+}
+
 // A state with its status.
 fn changed_told(flag: bool) -> Changed
     ensures { result ≡ Spec.changed flag }
 {
     Changed {
         status: 0,
-        state: State {
-            cfa_fp: flag,
-            cfa_units: 12,
-            count: 16,
-            regs: SAVED_REGS,
-            slots: SAVED_SLOTS,
-        },
+        state: state_told(flag),
     }
 }
 
@@ -164,13 +171,7 @@ fn ended_told(flag: bool) -> Ended
 {
     Ended {
         status: 0,
-        state: State {
-            cfa_fp: flag,
-            cfa_units: 12,
-            count: 16,
-            regs: SAVED_REGS,
-            slots: SAVED_SLOTS,
-        },
+        state: state_told(flag),
         after: 152,
     }
 }
@@ -223,20 +224,29 @@ fn batch_told(flag: bool) -> Batch
     }
 }
 
+// An unwinding that stands at a place, as its register file does.
+fn unwinding_at(at: usize, regs: Regs, flag: bool) -> Unwinding
+    requires bound { at ≤ 328 }
+    requires file { regs ≡ (Spec.unwinding_at at flag).regs }
+    ensures { result ≡ Spec.unwinding_at at flag }
+{
+    Unwinding {
+        regs,
+        number: at + 328,
+        exception: at + 336,
+        chosen_number: at + 344,
+        chosen_sp: at + 352,
+        interrupted: flag,
+        chosen: !flag,
+    }
+}
+
 // A throw.
 fn raised_told(flag: bool) -> Raised
     ensures { result ≡ Spec.raised flag }
 {
     Raised {
-        unwinding: Unwinding {
-            regs: REGS_AT_0,
-            number: 328,
-            exception: 336,
-            chosen_number: 344,
-            chosen_sp: 352,
-            interrupted: flag,
-            chosen: !flag,
-        },
+        unwinding: unwinding_at(0, REGS_AT_0, flag),
         number: 368,
         sp: 376,
         status: 384,
@@ -250,15 +260,7 @@ fn resumed_told(flag: bool) -> Resumed
 {
     Resumed {
         regs: REGS_AT_0,
-        unwinding: Unwinding {
-            regs: REGS_AT_328,
-            number: 656,
-            exception: 664,
-            chosen_number: 672,
-            chosen_sp: 680,
-            interrupted: flag,
-            chosen: !flag,
-        },
+        unwinding: unwinding_at(328, REGS_AT_328, flag),
         number: 696,
         status: 704,
         reason: 708,

@@ -1,4 +1,4 @@
-// The chunk of a record that was found, against the record as recorded.
+// The chunk of a record that was found, against the record.
 ghost use Rattle.std.specs.Prelude.{◌<◌, ◌≤◌};
 
 use lookup::{Chunk, HEADER, MAGIC, RECORD, RECORD2, Record, VERSION};
@@ -46,7 +46,7 @@ fn is_part(section: &[u8], k: usize, part: &[u8]) -> bool {
     section.get(k..).is_some_and(|rest| rest.starts_with(part))
 }
 
-// The part is the chunk of the recorded record: it lies where lookup says, it is as long as its header says, it has that record,
+// The part is the chunk of the record: it lies where lookup says, it is as long as its header says, it has that record,
 // and in version 2 it ends at the record's limit.
 pub fn same_chunk(memory: &Memory<'_>, part: &[u8], c: Chunk, r: Record) -> bool {
     let address = wrapping::add(memory.section_base, c.offset);

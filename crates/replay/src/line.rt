@@ -7,40 +7,45 @@ use lookup::Record;
 use mem::Memory;
 use personality::Phase;
 use state::State;
-use std::alloc::{AllocError, AllocFailed, Global};
-use std::num::ParseIntError;
-use std::str::Split;
+use std::alloc::{AllocError, Global};
+use std::slice::Iter;
 
-// Why a case cannot be compared.
-#[derive(Clone, Copy, PartialEq, Eq)]
-pub enum Fault {
-    // What stands on the line is not what its operation has there.
-    Malformed,
-    OutOfMemory(AllocError),
-}
+// The most numbers of a line, and the most bytes of a range.
+pub const WORDS: usize = 8192;
 
-impl From<ParseIntError> for Fault {
-    fn from(_e: ParseIntError) -> Fault {
-        Fault::Malformed
+const MOST_BYTES: usize = 6144;
+
+// The value of a lower-case hexadecimal digit; 0 for any other byte.
+fn digit(c: u8) -> usize {
+    match c {
+        b'0'..=b'9' => usize::from(c - b'0'),
+        b'a'..=b'f' => usize::from(c - b'a') + 10,
+        _ => 0,
     }
 }
 
-impl From<AllocError> for Fault {
-    fn from(e: AllocError) -> Fault {
-        Fault::OutOfMemory(e)
+// A number in hexadecimal, modulo 2^64.
+fn number(digits: &[u8]) -> usize {
+    let mut n: usize = 0;
+    for &c in digits {
+        n = n.wrapping_mul(16).wrapping_add(digit(c));
     }
+    n
 }
 
-impl<T: Drop> From<AllocFailed<T>> for Fault {
-    fn from(e: AllocFailed<T>) -> Fault {
-        Fault::OutOfMemory(e.into())
+// Reads the numbers of a line over those of the lines before it. Whether there is room for all.
+pub fn read_numbers(text: &[u8], words: &mut [usize]) -> bool {
+    let mut tokens = text.split(|c| *c == b' ');
+    for (word, digits) in words.iter_mut().zip(tokens.by_ref()) {
+        *word = number(digits);
     }
+    tokens.next().is_none()
 }
 
-// What is left of a line.
+// What is left of a line. A number that it lacks is that of the last line which had one there, or 0.
 #[derive(Drop)]
 pub struct Line<'a> {
-    tokens: Split<'a, char>,
+    words: Iter<'a, usize>,
     alloc: Global,
 }
 
@@ -72,64 +77,67 @@ fn file_size(arch: u8) -> usize
 }
 
 impl<'a> Line<'a> {
-    pub fn new(text: &'a str, alloc: Global) -> Self {
+    pub fn new(words: &'a [usize], alloc: Global) -> Self {
         Line {
-            tokens: text.split(' '),
+            words: words.iter(),
             alloc,
         }
     }
 
-    // Nothing is left.
-    pub fn is_at_end(&mut self) -> bool {
-        self.tokens.next().is_none()
-    }
-
     // The next number.
-    pub fn word(&mut self) -> Result<usize, Fault> {
-        let token = self.tokens.next().ok_or(Fault::Malformed)?;
-        Ok(usize::from_str_radix(token, 16)?)
+    pub fn word(&mut self) -> usize {
+        self.words.next().copied().unwrap_or(0)
     }
 
-    // The next number, as what it stands for.
-    pub fn number<T: TryFrom<usize>>(&mut self) -> Result<T, Fault>
-    where
-        T::Error: Drop,
-    {
-        T::try_from(self.word()?).map_err(|_| Fault::Malformed)
+    // The next number modulo 2^8, 2^16 or 2^32.
+    pub fn u8(&mut self) -> u8 {
+        (self.word() % 0x100) as u8
     }
 
-    // 0 or 1. No `TryFrom`, as for a phase: neither the number nor the type is of this crate.
-    pub fn flag(&mut self) -> Result<bool, Fault> {
-        match self.word()? {
-            0 => Ok(false),
-            1 => Ok(true),
-            _ => Err(Fault::Malformed),
+    pub fn u16(&mut self) -> u16 {
+        (self.word() % 0x1_0000) as u16
+    }
+
+    pub fn u32(&mut self) -> u32 {
+        (self.word() % 0x1_0000_0000) as u32
+    }
+
+    // The next numbers.
+    pub fn words<const N: usize>(&mut self) -> [usize; N] {
+        let mut words = [0; N];
+        for word in &mut words {
+            *word = self.word();
+        }
+        words
+    }
+
+    // A flag: 1 is true, any other number false.
+    pub fn flag(&mut self) -> bool {
+        self.word() == 1
+    }
+
+    // A phase: 1 is search, any other number cleanup.
+    pub fn phase(&mut self) -> Phase {
+        match self.word() {
+            1 => Phase::Search,
+            _ => Phase::Cleanup,
         }
     }
 
-    // A phase: 1 search or 2 cleanup.
-    pub fn phase(&mut self) -> Result<Phase, Fault> {
-        match self.word()? {
-            1 => Ok(Phase::Search),
-            2 => Ok(Phase::Cleanup),
-            _ => Err(Fault::Malformed),
-        }
-    }
-
-    // LEN bytes.
-    fn bytes(&mut self) -> Result<Vec<u8>, Fault> {
+    // LEN bytes, or as many as a range has at most.
+    fn bytes(&mut self) -> Result<Vec<u8>, AllocError> {
         let mut bytes = Vec::new(self.alloc);
-        for _ in 0..self.word()? {
-            bytes.push(self.number()?)?;
+        for _ in 0..self.word().min(MOST_BYTES) {
+            bytes.push(self.u8())?;
         }
         Ok(bytes)
     }
 
     // What is lent: SBASE SLEN bytes KBASE KLEN bytes.
-    pub fn lent(&mut self) -> Result<Lent, Fault> {
-        let section_base = self.word()?;
+    pub fn lent(&mut self) -> Result<Lent, AllocError> {
+        let section_base = self.word();
         let section = self.bytes()?;
-        let stack_base = self.word()?;
+        let stack_base = self.word();
         let stack = self.bytes()?;
         Ok(Lent {
             section,
@@ -140,60 +148,47 @@ impl<'a> Line<'a> {
     }
 
     // FILE: the first columns, and pc.
-    pub fn file(&mut self, arch: u8) -> Result<Regs, Fault> {
+    pub fn file(&mut self, arch: u8) -> Regs {
         let mut r = [0; COLUMNS];
         let last = file_size(arch) - 1;
         for column in &mut r[..last] {
-            *column = self.word()?;
+            *column = self.word();
         }
-        r[PC_COLUMN] = self.word()?;
-        Ok(Regs { r })
+        r[PC_COLUMN] = self.word();
+        Regs { r }
     }
 
     // STATE, which is FP UNITS COUNT N r1 s1 .. rN sN; pairs past the Nth are 0 0.
-    pub fn state(&mut self) -> Result<State, Fault> {
-        let cfa_fp = self.flag()?;
-        let cfa_units = self.number()?;
-        let count = self.word()?;
-        let n = self.word()?;
+    pub fn state(&mut self) -> State {
+        let cfa_fp = self.flag();
+        let cfa_units = self.u32();
+        let count = self.word();
+        let n = self.word();
         let mut regs = [0; 32];
         let mut slots = [0; 32];
         for (reg, slot) in regs.iter_mut().zip(&mut slots).take(n) {
-            *reg = self.number()?;
-            *slot = self.number()?;
+            *reg = self.u16();
+            *slot = self.u16();
         }
-        Ok(State {
+        State {
             cfa_fp,
             cfa_units,
             count,
             regs,
             slots,
-        })
-    }
-
-    // A record that lookup gives: START END FRAME HANDLERS PROGRAM LIMIT VERSION.
-    pub fn found_record(&mut self) -> Result<Record, Fault> {
-        Ok(Record {
-            start: self.word()?,
-            end: self.word()?,
-            frame: self.number()?,
-            handlers: self.word()?,
-            program: self.word()?,
-            limit: self.word()?,
-            version: self.number()?,
-        })
+        }
     }
 
     // A record that a personality goes by: START HANDLERS VERSION FRAME PROGRAM LIMIT.
-    pub fn record(&mut self) -> Result<Record, Fault> {
-        Ok(Record {
-            start: self.word()?,
+    pub fn record(&mut self) -> Record {
+        Record {
+            start: self.word(),
             end: 0,
-            handlers: self.word()?,
-            version: self.number()?,
-            frame: self.number()?,
-            program: self.word()?,
-            limit: self.word()?,
-        })
+            handlers: self.word(),
+            version: self.u8(),
+            frame: self.u32(),
+            program: self.word(),
+            limit: self.word(),
+        }
     }
 }

@@ -3,7 +3,7 @@
 #![tactic(auto)]
 
 use cases::check_case;
-use line::{Fault, Line};
+use line::{Line, WORDS, read_numbers};
 use std::alloc::{AllocError, Global};
 use std::fs::File;
 use std::io::Read;
@@ -15,6 +15,9 @@ mod chunk;
 mod line;
 mod operation;
 mod same;
+
+// The most bytes of a list that are read.
+const MOST: u64 = 16 * 1024 * 1024;
 
 // What the replay of a list has come to: how many cases it has had, how many of them differ and which was the first, counted from 1.
 #[derive(Clone, Copy, Default)]
@@ -46,34 +49,31 @@ impl fmt::Display for Progress {
     }
 }
 
-// Our answer to the case on a line is the recorded one. A line that is no case differs.
-fn is_same(text: &str, alloc: Global) -> Result<bool, AllocError> {
-    let mut line = Line::new(text, alloc);
-    match check_case(&mut line) {
-        Ok(same) => Ok(same && line.is_at_end()),
-        Err(Fault::Malformed) => Ok(false),
-        Err(Fault::OutOfMemory(e)) => Err(e),
-    }
-}
-
-// Replays a list.
-fn replay_list(list: &str, alloc: Global) -> Result<Progress, AllocError> {
+// Replays a list. A last line that does not end is no case, and a line of more numbers than there is room for ends the list.
+fn replay_list(list: &[u8], alloc: Global) -> Result<Progress, AllocError> {
     let mut progress = Progress::default();
-    for line in list.lines() {
-        progress.count(is_same(line, alloc)?);
+    let mut words = [0; WORDS];
+    for line in list.split_inclusive(|c| *c == b'\n') {
+        let Some(line) = line.strip_suffix(b"\n") else {
+            break;
+        };
+        if !read_numbers(line, &mut words) {
+            break;
+        }
+        progress.count(check_case(&mut Line::new(&words, alloc))?);
     }
     Ok(progress)
 }
 
 // Replays a list by its file's name, and writes a line of what came of it.
 fn replay<R: Files + Print + Eprint + AllocGlobal>(rt: &R, name: &str) -> io::Result<()> {
-    let mut file = match File::open(rt, name) {
+    let file = match File::open(rt, name) {
         Ok(file) => file,
         Err(e) => return eprintln!(rt; "{name}: {e}"),
     };
-    let mut list = String::new(rt.alloc());
-    file.read_to_string(&mut list)?;
-    let progress = replay_list(list.as_str(), rt.alloc())?;
+    let mut list = Vec::new(rt.alloc());
+    file.take(MOST).read_to_end(&mut list)?;
+    let progress = replay_list(&list, rt.alloc())?;
     println!(rt; "{name}: {progress}")
 }
 

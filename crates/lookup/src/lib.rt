@@ -102,8 +102,8 @@ fn u32_at(part: &[u8], k: usize) -> u32
 
 // Headers.
 
-// How many bytes a record of a version has, 0 where the version is not known: a number, since a chunk holds it as one, and one test
-// of a header is that it is not 0.
+// How many bytes a record of a version has, 0 where the version is not known: a number, since a chunk that is handed out holds it as
+// one, and document 01's test of a version is that it is not 0.
 fn stride(version: u8) -> usize
     ensures { result ≡ Header.stride version }
 {
@@ -158,7 +158,7 @@ fn faulty(part: &[u8], arch: u8, k: usize, magic: u32, c: Chunk) -> bool
     part.len() - k < c.size
 }
 
-// A header at offset k that gets 17, or its chunk.
+// A header at offset k that gets 17, or its chunk: never none, in the answer of `head_at`, which passes it on.
 fn head_of(part: &[u8], arch: u8, k: usize, magic: u32, c: Chunk) -> Result<Option<Chunk>, Failure>
     requires { (k + 16 ≤ length part.now) × (magic ≡ word part.now k 4) × (magic ≡ 0 → ⊥) × (c ≡ Header.chunk_at part.now k)
         × (c.stride ≤ 16) × (c.count < 2 ^ 32) }
@@ -453,7 +453,7 @@ fn bad_record(r: Record) -> bool
 }
 
 impl ChunkIn<'_> {
-    // The record at offset k, tested for 18: its place, or the refusal.
+    // The record at offset k, tested for 18: its place, or the refusal; never none, in the answer of `find`, which passes it on.
     fn place_tested(&self, k: usize) -> Result<Option<Place>, Failure>
         requires { SomeStands self.now.chunk k × (self.now.chunk ≡ Header.chunk_at self.now.part.now self.now.chunk.offset) }
         ensures { (placed self.now.part.now self.now.base result ≡

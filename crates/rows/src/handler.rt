@@ -135,62 +135,55 @@ fn is_held(section: &[u8], base: usize, table: usize) -> bool
     4 <= rest && 4 + 12 * u32_at(section, k) <= rest
 }
 
-// Whether the left neighbour, if there is one, is not below the row. The first row is compared with itself, and is not below itself:
-// there is no branch to guess.
-fn left_breaks_in(
-    section: &[u8],
+// A row of such a table: it stands at offset k of the section.
+#[derive(Clone, Copy)]
+struct RowIn<'a> {
+    section: &'a [u8],
     base: usize,
     table: usize,
     count: usize,
     k: usize,
     offset: usize,
-) -> bool
-    requires { RowAt section.now base table count k offset }
-    ensures { Answer result ≡ Handler.left_breaks (alone section.now base) table (number base table k) offset }
-{
-    // 1 for the first row, else 0
-    let first = (k == table - base + 4) as usize;
-    // past the first row: offset < left + 1, so offset <= left; for the first: offset < offset, which is false
-    offset < u32_at(section, k + 12 * first - 12) + 1 - first
+    ghost at: { RowAt section.now base table count k offset },
 }
 
-// Whether the right neighbour, if there is one, is not above the row; the last row is compared with itself in the same way.
-fn right_breaks_in(
-    section: &[u8],
-    base: usize,
-    table: usize,
-    count: usize,
-    k: usize,
-    offset: usize,
-) -> bool
-    requires { RowAt section.now base table count k offset }
-    ensures { Answer result ≡
-        Handler.right_breaks (alone section.now base) table count (number base table k) offset }
-{
-    // 1 for the last row, else 0
-    let last = (k + 12 == table - base + 4 + 12 * count) as usize;
-    // before the last row: right <= offset; for the last: offset + 1 <= offset, which is false
-    u32_at(section, k + 12 - 12 * last) + last <= offset
-}
-
-// A row that was found: its neighbours, left first, and then the row itself.
-fn judged_in(
-    section: &[u8],
-    base: usize,
-    table: usize,
-    count: usize,
-    k: usize,
-    offset: usize,
-) -> Result<Option<Row>, Failure>
-    requires { RowAt section.now base table count k offset }
-    ensures { found result ≡ judged_at (alone section.now base) table count (number base table k) }
-{
-    if left_breaks_in(section, base, table, count, k, offset)
-        || right_breaks_in(section, base, table, count, k, offset)
+impl RowIn<'_> {
+    // Whether the left neighbour, if there is one, is not below the row. The first row is compared with itself, and is not below itself:
+    // there is no branch to guess.
+    fn left_breaks(&self) -> bool
+        ensures { Answer result ≡ Handler.left_breaks (alone self.now.section.now self.now.base) self.now.table
+            (number self.now.base self.now.table self.now.k) self.now.offset }
     {
-        return Err(Failure::EkoAmbiguousCallSite);
+        // 1 for the first row, else 0
+        let first = (self.k == self.table - self.base + 4) as usize;
+        // past the first row: offset < left + 1, so offset <= left; for the first: offset < offset, which is false
+        self.offset < u32_at(self.section, self.k + 12 * first - 12) + 1 - first
     }
-    checked(u32_at(section, k + 4), u32_at(section, k + 8))
+
+    // Whether the right neighbour, if there is one, is not above the row; the last row is compared with itself in the same way.
+    fn right_breaks(&self) -> bool
+        ensures { Answer result ≡ Handler.right_breaks (alone self.now.section.now self.now.base) self.now.table self.now.count
+            (number self.now.base self.now.table self.now.k) self.now.offset }
+    {
+        // 1 for the last row, else 0
+        let last = (self.k + 12 == self.table - self.base + 4 + 12 * self.count) as usize;
+        // before the last row: right <= offset; for the last: offset + 1 <= offset, which is false
+        u32_at(self.section, self.k + 12 - 12 * last) + last <= self.offset
+    }
+
+    // A row that was found: its neighbours, left first, and then the row itself.
+    fn judged(&self) -> Result<Option<Row>, Failure>
+        ensures { found result ≡ judged_at (alone self.now.section.now self.now.base) self.now.table self.now.count
+            (number self.now.base self.now.table self.now.k) }
+    {
+        if self.left_breaks() || self.right_breaks() {
+            return Err(Failure::EkoAmbiguousCallSite);
+        }
+        checked(
+            u32_at(self.section, self.k + 4),
+            u32_at(self.section, self.k + 8),
+        )
+    }
 }
 
 // The row of a return offset in the table. The rows left are n from offset at on. The `if` that chooses the half has no `else`, and
@@ -208,7 +201,15 @@ fn handler_in(section: &[u8], base: usize, table: usize, ret: usize) -> Result<O
         let middle = at + 12 * (n / 2);
         let offset = u32_at(section, middle);
         if offset == ret {
-            return judged_in(section, base, table, count, middle, offset);
+            let row = RowIn {
+                section,
+                base,
+                table,
+                count,
+                k: middle,
+                offset,
+            };
+            return row.judged();
         }
         let down = ret < offset;
         if !down {
@@ -231,11 +232,14 @@ pub fn handler_at(memory: &Memory<'_>, table: usize, ret: usize) -> Result<Optio
     handler_anywhere(memory, table, ret)
 }
 
-// The same in what is lent.
-#[tactic(auto, unfolding(crate::specs::Handler::handler_in, mem::specs::Opening::opened))]
+// The same in what is lent; without a call of `handler_at`, whose answer would go through memory.
+#[tactic(auto, unfolding(crate::specs::Handler::handler_in, mem::specs::Opening::opened), using(crate::proofs::Held::handler_lent))]
 pub fn handler(memory: &Memory<'_>, table: usize, ret: u32) -> Result<Option<Row>, Failure>
     ensures { found result ≡ Handler.handler_in (lent_by memory.now) table ret }
 {
     memory.require_opened()?;
-    handler_at(memory, table, ret as usize)
+    if is_held(memory.section, memory.section_base, table) {
+        return handler_in(memory.section, memory.section_base, table, ret as usize);
+    }
+    handler_anywhere(memory, table, ret as usize)
 }

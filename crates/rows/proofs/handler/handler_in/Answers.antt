@@ -9,7 +9,7 @@ loop-n-init c = begin_in _ _ _ _ _ c.requires c.u32_at-count.ensures.0
 
 pub returns-then-offset-ret : goal.returns-then-offset-ret
 returns-then-offset-ret c =
-    turn_found_in _ _ _ _ _ _ _ c.loop-n.invariant c.loop-n-test.true _ c.u32_at-offset.ensures.0 c.if-offset-ret.true _ c.judged_in.ensures
+    turn_found_in _ _ _ _ _ _ _ c.loop-n.invariant c.loop-n-test.true _ c.u32_at-offset.ensures.0 c.if-offset-ret.true _ c.judged.ensures
 
 pub loop-n-preserved : goal.loop-n-preserved
 loop-n-preserved c =

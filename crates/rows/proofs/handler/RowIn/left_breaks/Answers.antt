@@ -1,9 +1,9 @@
--- `rows::handler::left_breaks_in` meets its contract. Assumes nothing.
+-- `rows::handler::RowIn::left_breaks` meets its contract. Assumes nothing.
 use Rattle.std.proofs.Common.{refl}
 use Rattle.rows.proofs.Held.{left_said}
-use Rattle.rows.proofs.handler.left_breaks_in.Goals as goal
+use Rattle.rows.proofs.handler.RowIn.left_breaks.Goals as goal
 
 pub returns : goal.returns
 returns c =
-    let p = c.requires in
+    let p = c.args.self.now.at in
     left_said _ _ _ _ p.whole _ _ p _ refl _ c.u32_at.ensures.0

@@ -33,9 +33,8 @@ use Rattle.model.specs.Cleanup as Cleanup
 use Rattle.model.specs.Cleanup.{Choice, Cleaned, install_pad, by_row, clean_at, clean_from, clean}
 use Rattle.model.specs.Unwinding.{frame_of, choice_of, going_on, resume}
 use Rattle.unwind.specs.Answers.{accepts, frame_with, Handed, unmoved, resumed_by}
-use Rattle.unwind.specs.Turns.{Seen, End, Rowless, WithRow, seen_as, seen_at, seen, seen_any, MeetsAny, clean_row, clean_by, install_at, clean_or}
+use Rattle.unwind.specs.Turns.{Seen, End, Past, row_as, seen_at, seen, seen_any, MeetsAny, clean_row, clean_past, clean_by, install_at, clean_or}
 use Rattle.unwind.specs.declared.Met.{Met}
-use Rattle.unwind.specs.declared.Met.TheVariants as met
 use Rattle.unwind.specs.declared.ResumeAnswer.{ResumeAnswer}
 use Rattle.unwind.specs.declared.ResumeAnswer.TheVariants as answer
 use Rattle.unwind.specs.declared.cleanup.Cleaning.{Cleaning}
@@ -73,8 +72,7 @@ module _ (arch : ℕ) (l : Lent) (exception : ℕ) (c : Choice) (f : Frame) wher
 
   abbrev by_seen : (Frame → Outcome Cleaned) → Seen → Outcome Cleaned
   by_seen rest End = Outcome.Refused 22
-  by_seen rest (Rowless r next) = if below then rest next else Outcome.Refused 22
-  by_seen rest (WithRow next start pad action) = clean_or (numbers arch) exception f next (by_pad start pad action) (rest next)
+  by_seen rest (Past r next row) = by_row (numbers arch) exception c f r next (rest next) row
 
   -- a row, where it is known how the numbers and the action compare
   by_row_lem : (r : Record) (next : Frame) (rest : Outcome Cleaned) (pad action : ℕ) →
@@ -101,10 +99,9 @@ module _ (arch : ℕ) (l : Lent) (exception : ℕ) (c : Choice) (f : Frame) wher
     where
       go : (o : Outcome Found) →
           (o >>= by_row (numbers arch) exception c f r next (rest next))
-          ≡ ((o >>= λ row. Answer (seen_as r next row)) >>= by_seen rest)
+          ≡ ((o >>= λ row. Answer (Past r next row)) >>= by_seen rest)
       go (Outcome.Refused n) = refl
-      go (Answer Row.None) = refl
-      go (Answer (Row.Pad pad action)) = by_row_lem r next (rest next) pad action
+      go (Answer row) = refl
 
   -- the same of a frame that was met
   by_met : (file : List ℕ) (x : Result (Option Met) Failure) → MeetsAny true arch l f file x → (rest : Frame → Outcome Cleaned) →
@@ -119,13 +116,18 @@ module _ (arch : ℕ) (l : Lent) (exception : ℕ) (c : Choice) (f : Frame) wher
       rowless true = refl
       rowless false = refl
 
+      past : (r : Record) (row : Option declared.Row) →
+          by_row (numbers arch) exception c f r (caller_of l f file) (rest (caller_of l f file)) (row_as row)
+          ≡ clean_or (numbers arch) exception f (caller_of l f file) (clean_past below same r.start row) (rest (caller_of l f file))
+      past r None = rowless below
+      past r (Some row) = by_row_lem r (caller_of l f file) (rest (caller_of l f file)) row.pad (number_of row.action)
+
       go : (x : Result (Option Met) Failure) →
           (map (seen_any l f file) (outcome x) >>= by_seen rest)
           ≡ clean_or (numbers arch) exception f (caller_of l f file) (clean_by below same (outcome x)) (rest (caller_of l f file))
       go (Err n) = refl
       go (Ok None) = refl
-      go (Ok (Some (met.Rowless r))) = rowless below
-      go (Ok (Some (met.WithRow start row))) = refl
+      go (Ok (Some w)) = past w.«record» w.row
 
 -- what a sweep from a frame on comes to, for an unwinding
 abbrev pub cleaned_from : ℕ → ℕ → Lent → Unwinding → Frame → Outcome Cleaned
@@ -153,8 +155,7 @@ module _ (arch : ℕ) (l : Lent) (u : Unwinding) where
         go : (x : Result (Option Met) Failure) → MeetsAny true arch l f file x → Answer v ≡ clean_by b s (outcome x) → f.number < 1024
         go (Err n) e z = answer-refused v _ z
         go (Ok None) e z = answer-refused v _ z
-        go (Ok (Some (met.Rowless r))) e z = seen_below true arch l f _ e (λ y. absurd cc)
-        go (Ok (Some (met.WithRow start row))) e z = seen_below true arch l f _ e (λ y. absurd cc)
+        go (Ok (Some w)) e z = seen_below true arch l f _ e (λ y. absurd cc)
 
     module _ (d : UnderWay arch l u f) where
       -- what is left, by the turn

@@ -21,7 +21,7 @@ use Rattle.frame.specs.Apply.{apply}
 use Rattle.model.specs.FrameStep as Walk
 use Rattle.model.specs.FrameStep.{Frame, Step, next_interrupted, caller_of, caller_file, past, past_found, frame_step}
 use Rattle.unwind.specs.Answers.{frame_with}
-use Rattle.unwind.specs.Turns.{record_of, Seen, End, Rowless, seen_as, seen_at, seen, caller_by_run, met_row, seen_by}
+use Rattle.unwind.specs.Turns.{record_of, Seen, End, Past, seen_at, seen, caller_by_run, row_as, met_row, seen_by}
 use Rattle.unwind.specs.declared.Met.{Met}
 use Rattle.unwind.proofs.Walks.{record_in, step_by_record, record_bounds, by_run, by_run_refused}
 
@@ -48,22 +48,23 @@ module _ (arch : ℕ) (l : Lent) (f : Frame) (r : Record) (at : ℕ) (q : at ≡
 
   module _ (rows : Bool) (file : List ℕ) (p : Answer (Walk.Past r (caller_of l f file)) ≡ past (numbers arch) l f r) where
     -- past the frame, where no row is asked for or it has none
-    pub meets_unasked : (rows && not (rowless f.interrupted r at)) ≡ false → Answer (Rowless r (caller_of l f file)) ≡ seen rows arch l f
+    pub meets_unasked : (rows && not (rowless f.interrupted r at)) ≡ false →
+        Answer (Past r (caller_of l f file) Found.None) ≡ seen rows arch l f
     meets_unasked h = go rows h ∙ by_past rows (Answer (Walk.Past r (caller_of l f file))) p
       where
         go : (s : Bool) → (s && not (rowless f.interrupted r at)) ≡ false →
-            Answer (Rowless r (caller_of l f file)) ≡ seen_at s arch l f (Walk.Past r (caller_of l f file))
+            Answer (Past r (caller_of l f file) Found.None) ≡ seen_at s arch l f (Walk.Past r (caller_of l f file))
         go true e =
-            ap (λ (o : Outcome Found). o >>= λ z. Answer (seen_as r (caller_of l f file) z))
+            ap (λ (o : Outcome Found). o >>= λ z. Answer (Past r (caller_of l f file) z))
             (row_none (numbers arch) l.regions f.interrupted r at (not-false _ e)
             ∙ ap (λ (k : ℕ). row_of (numbers arch) l.regions f.interrupted r k) q)
         go false e = refl
 
     module _ (k : rows ≡ true) where
       by_row : (o : Outcome Found) → o ≡ row_of (numbers arch) l.regions f.interrupted r at →
-          (o >>= λ z. Answer (seen_as r (caller_of l f file) z)) ≡ seen rows arch l f
+          (o >>= λ z. Answer (Past r (caller_of l f file) z)) ≡ seen rows arch l f
       by_row o g =
-          ap (λ (x : Outcome Found). x >>= λ z. Answer (seen_as r (caller_of l f file) z))
+          ap (λ (x : Outcome Found). x >>= λ z. Answer (Past r (caller_of l f file) z))
           (g ∙ ap (λ (i : ℕ). row_of (numbers arch) l.regions f.interrupted r i) q)
           ∙ by_past true (Answer (Walk.Past r (caller_of l f file))) p
           ∙ ap (λ (b : Bool). seen b arch l f) (sym k)
@@ -74,7 +75,7 @@ module _ (arch : ℕ) (l : Lent) (f : Frame) (r : Record) (at : ℕ) (q : at ≡
       meets_row x g w h = ap (λ (y : Met). Answer (seen_by l f file y)) h ∙ told x ∙ by_row (found (Ok x)) g
         where
           told : (x : Option Row) →
-              Answer (seen_by l f file (met_row r x)) ≡ (found (Ok x) >>= λ z. Answer (seen_as r (caller_of l f file) z))
+              Answer (Past r (caller_of l f file) (row_as x)) ≡ (found (Ok x) >>= λ z. Answer (Past r (caller_of l f file) z))
           told None = refl
           told (Some row) = refl
 

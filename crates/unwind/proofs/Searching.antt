@@ -15,17 +15,16 @@ use Rattle.failure.proofs.Outcome.{answer-refused}
 use Rattle.mem.specs.Memory.{Lent}
 use Rattle.arch.specs.Arch.{numbers}
 use Rattle.arch.specs.File.{pc}
-use Rattle.rows.specs.Row as Row
 use Rattle.rows.specs.Row.{Found}
-use Rattle.personality.specs.Reason.{row_of, searched_code}
+use Rattle.rows.specs.declared.Row.{Row}
+use Rattle.personality.specs.Reason.{row_of}
 use Rattle.model.specs.FrameStep as Walk
 use Rattle.model.specs.FrameStep.{Frame, Step, next_interrupted, caller_of, frame_step}
 use Rattle.model.specs.Search as Search
-use Rattle.model.specs.Search.{Searched, by_code, search_at, search_from, search}
+use Rattle.model.specs.Search.{Searched, search_code, by_code, search_at, search_from, search}
 use Rattle.unwind.specs.Answers.{frame_with, searched}
-use Rattle.unwind.specs.Turns.{Seen, End, Rowless, WithRow, seen_as, seen_at, seen, seen_any, MeetsAny, search_or, search_met, SearchTurn}
+use Rattle.unwind.specs.Turns.{Seen, End, Past, row_as, seen_at, seen, seen_any, MeetsAny, search_or, search_row, search_met, SearchTurn}
 use Rattle.unwind.specs.declared.Met.{Met}
-use Rattle.unwind.specs.declared.Met.TheVariants as met
 use Rattle.unwind.specs.declared.RaiseAnswer.{RaiseAnswer}
 use Rattle.unwind.proofs.Meeting.{seen_below, caller_held}
 
@@ -44,8 +43,7 @@ module _ (arch : ℕ) (l : Lent) (f : Frame) where
   -- what a frame's step and row say
   abbrev by_seen : (Frame → Outcome Searched) → Seen → Outcome Searched
   by_seen rest End = Answer Search.Ended
-  by_seen rest (Rowless r next) = rest next
-  by_seen rest (WithRow next start pad action) = by_code (numbers arch) f (searched_code action) (rest next)
+  by_seen rest (Past r next row) = by_code (numbers arch) f (search_code row) (rest next)
 
   by_seen_lem : (rest : Frame → Outcome Searched) (o : Outcome Step) →
       (o >>= search_at arch l f rest) ≡ ((o >>= seen_at true arch l f) >>= by_seen rest)
@@ -54,11 +52,10 @@ module _ (arch : ℕ) (l : Lent) (f : Frame) where
   by_seen_lem rest (Answer (Walk.Past r next)) = go (row_of (numbers arch) l.regions f.interrupted r (pc f.file))
     where
       go : (o : Outcome Found) →
-          (o >>= λ row. by_code (numbers arch) f (Search.search_code row) (rest next))
-          ≡ ((o >>= λ row. Answer (seen_as r next row)) >>= by_seen rest)
+          (o >>= λ row. by_code (numbers arch) f (search_code row) (rest next))
+          ≡ ((o >>= λ row. Answer (Past r next row)) >>= by_seen rest)
       go (Outcome.Refused n) = refl
-      go (Answer Row.None) = refl
-      go (Answer (Row.Pad pad action)) = refl
+      go (Answer row) = refl
 
   -- the search by a frame's step and row
   by_frame : (rest : Frame → Outcome Searched) → (frame_step arch l f >>= search_at arch l f rest) ≡ (seen true arch l f >>= by_seen rest)
@@ -87,11 +84,15 @@ module _ (arch : ℕ) (l : Lent) (f : Frame) where
       by_turn : whole ≡ search_or t rest
       by_turn = by_meeting (Ok w) p ∙ go w ∙ sym (g rest)
         where
+          by_row : (row : Option Row) →
+              by_code (numbers arch) f (search_code (row_as row)) rest ≡ search_row f.number (get_or f.file k 0) row rest
+          by_row None = refl
+          by_row (Some row) = rw q refl
+
           go : (w : Option Met) →
               (Answer (seen_any l f file w) >>= by_seen (λ h. search_from s.fuel arch l h)) ≡ search_met f.number (get_or f.file k 0) w rest
           go None = refl
-          go (Some (met.Rowless r)) = refl
-          go (Some (met.WithRow start row)) = rw q refl
+          go (Some w) = by_row w.row
 
       -- a turn that goes on has passed the frame
       pub searching_below : (z : Unit {0}) → t ≡ Continue z → f.number < 1024
@@ -100,8 +101,7 @@ module _ (arch : ℕ) (l : Lent) (f : Frame) where
           go : (w : Option Met) → Answer (seen_any l f file w) ≡ seen true arch l f →
               ((x : Outcome Searched) → x ≡ search_met f.number (get_or f.file k 0) w x) → f.number < 1024
           go None e on = answer-refused Search.Ended 0 (sym (on (Outcome.Refused 0)))
-          go (Some (met.Rowless r)) e on = seen_below true arch l f _ e (λ q. absurd cc)
-          go (Some (met.WithRow start row)) e on = seen_below true arch l f _ e (λ q. absurd cc)
+          go (Some w) e on = seen_below true arch l f _ e (λ q. absurd cc)
 
       -- the search goes on from the caller
       pub searching_on : (z : Unit {0}) → t ≡ Continue z → (b : Bool) → b ≡ next_interrupted l f → Searching arch l whole (frame_with (f.number + 1) b file)

@@ -10,13 +10,12 @@ use Rattle.model.specs.FrameStep as Walk
 use Rattle.model.specs.FrameStep.{Frame, Step, frame_step}
 use Rattle.unwind.specs.declared.Met.{Met}
 use Rattle.unwind.specs.Answers.{staying, stepped}
-use Rattle.unwind.specs.Turns.{Seen, End, Rowless, WithRow, seen, seen_at, seen_any, MeetsAny}
+use Rattle.unwind.specs.Turns.{Seen, End, Past, seen, seen_at, seen_any, MeetsAny}
 
--- the step that was seen where no row is asked for; a row stands for the end, as none comes
+-- the step that was seen
 abbrev pub step_of : Seen → Step
 step_of End = Walk.End
-step_of (Rowless r next) = Walk.Past r next
-step_of (WithRow next start pad action) = Walk.End
+step_of (Past r next row) = Walk.Past r next
 
 -- the frame step, by what a frame that was met without asking for its row comes to
 pub step_met : (arch : ℕ) (l : Lent) (f : Frame) (file : List ℕ) (x v : Result (Option Met) Failure) →

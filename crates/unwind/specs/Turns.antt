@@ -24,7 +24,6 @@ use Rattle.model.specs.Cleanup.{Cleaned}
 use Rattle.unwind.specs.Answers.{searched_as}
 use Rattle.unwind.specs.declared.RaiseAnswer.{RaiseAnswer}
 use Rattle.unwind.specs.declared.Met.{Met}
-use Rattle.unwind.specs.declared.Met.TheVariants as met
 use Rattle.unwind.specs.declared.cleanup.Cleaning.{Cleaning}
 use Rattle.unwind.specs.declared.cleanup.Cleaning.TheVariants as cleaning
 
@@ -59,42 +58,38 @@ abbrev pub Locates : List ℕ → ℕ → ℕ → ℕ → Bool → ℕ → Resul
 Locates section base arch number interrupted at x =
     (stack : List ℕ) (stack_base : ℕ) → outcome x ≡ record_of (lent section base stack stack_base) arch number interrupted at
 
--- what a frame's step and row come to: the end; the record and the caller where no row is found or asked for; the caller with the
--- record's start and the row
+-- what a frame's step and row come to: the end; the record, the caller and the row, none where no row is found or asked for
 pub data Seen : Type 0 where
   End : Seen
-  Rowless : Record → Frame → Seen
-  WithRow : Frame → (start pad action : ℕ) → Seen
-
--- a frame past its step whose row was asked for
-abbrev pub seen_as : Record → Frame → Found → Seen
-seen_as r next Found.None = Rowless r next
-seen_as r next (Found.Pad pad action) = WithRow next r.start pad action
+  Past : Record → Frame → Found → Seen
 
 -- the row is found, with the record and the caller at hand
 abbrev pub row_seen : ℕ → Lent → Frame → Record → Frame → Outcome Seen
 row_seen arch l f r next = do
   row ← row_of (numbers arch) l.regions f.interrupted r (pc f.file)
-  Answer (seen_as r next row)
+  Answer (Past r next row)
 
 -- a frame after its step: its row, if rows are asked for
 abbrev pub seen_at : Bool → ℕ → Lent → Frame → Step → Outcome Seen
 seen_at rows arch l f Walk.End = Answer End
-seen_at rows arch l f (Walk.Past r next) = if rows then row_seen arch l f r next else Answer (Rowless r next)
+seen_at rows arch l f (Walk.Past r next) = if rows then row_seen arch l f r next else Answer (Past r next Found.None)
 
 -- a frame's step, then its row if rows are asked for
 unfoldable pub seen : Bool → ℕ → Lent → Frame → Outcome Seen
 seen rows arch l f = frame_step arch l f >>= seen_at rows arch l f
 
+-- a row as a table holds it
+abbrev pub row_as : Option Row → Found
+row_as None = Found.None
+row_as (Some row) = Found.Pad row.pad (number_of row.action)
+
 -- a row that was found, with its record
 abbrev pub met_row : Record → Option Row → Met
-met_row r None = met.Rowless r
-met_row r (Some row) = met.WithRow r.start row
+met_row r row = record { «record» = r; row = row }
 
 -- what a frame that was met comes to, where the caller has this file
 abbrev pub seen_by : Lent → Frame → List ℕ → Met → Seen
-seen_by l f file (met.Rowless r) = Rowless r (caller_of l f file)
-seen_by l f file (met.WithRow start row) = WithRow (caller_of l f file) start row.pad (number_of row.action)
+seen_by l f file w = Past w.«record» (caller_of l f file) (row_as w.row)
 
 abbrev pub seen_any : Lent → Frame → List ℕ → Option Met → Seen
 seen_any l f file None = End
@@ -120,11 +115,15 @@ by_action number sp action rest =
     else if eqb (searched_code action) fatal_phase1 then Answer Search.Stopped
     else rest
 
+-- the same of a row that may be none
+abbrev pub search_row : ℕ → ℕ → Option Row → Outcome Searched → Outcome Searched
+search_row number sp None rest = rest
+search_row number sp (Some row) rest = by_action number sp (number_of row.action) rest
+
 -- what a frame that was met says; `rest` is what the frames after it come to
 abbrev pub search_met : ℕ → ℕ → Option Met → Outcome Searched → Outcome Searched
 search_met number sp None rest = Answer Search.Ended
-search_met number sp (Some (met.Rowless r)) rest = rest
-search_met number sp (Some (met.WithRow start row)) rest = by_action number sp (number_of row.action) rest
+search_met number sp (Some w) rest = search_row number sp w.row rest
 
 -- the turn is that of a frame that was met
 abbrev pub SearchTurn : ℕ → ℕ → Option Met → ControlFlow RaiseAnswer (Unit {0}) → Type 0
@@ -140,11 +139,15 @@ clean_row below same start row =
     else Answer cleaning.Fatal)
     else (if eqb (number_of row.action) catch && same then Answer (cleaning.Install start row.pad) else Refused HandlerFrameMissed)
 
+-- the same of a row that may be none: none goes on below the chosen number and is 22 at it
+abbrev pub clean_past : Bool → Bool → ℕ → Option Row → Outcome Cleaning
+clean_past below same start None = if below then Answer cleaning.On else Refused HandlerFrameMissed
+clean_past below same start (Some row) = clean_row below same start row
+
 -- a frame that was met, in the cleanup phase
 abbrev pub clean_met : Bool → Bool → Option Met → Outcome Cleaning
 clean_met below same None = Refused HandlerFrameMissed
-clean_met below same (Some (met.Rowless r)) = if below then Answer cleaning.On else Refused HandlerFrameMissed
-clean_met below same (Some (met.WithRow start row)) = clean_row below same start row
+clean_met below same (Some w) = clean_past below same w.«record».start w.row
 
 -- the same of a frame whose meeting may be refused
 abbrev pub clean_by : Bool → Bool → Outcome (Option Met) → Outcome Cleaning

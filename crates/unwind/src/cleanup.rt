@@ -56,13 +56,15 @@ fn clean_turn(
 {
     match met? {
         None => Err(Failure::HandlerFrameMissed),
-        Some(Met::Rowless(_)) => {
-            if is_below {
-                return Ok(Cleaning::On);
+        Some(met) => match met.row {
+            None => {
+                if is_below {
+                    return Ok(Cleaning::On);
+                }
+                Err(Failure::HandlerFrameMissed)
             }
-            Err(Failure::HandlerFrameMissed)
-        }
-        Some(Met::WithRow(start, row)) => clean_row(is_below, same_sp, start, row),
+            Some(row) => clean_row(is_below, same_sp, met.record.start, row),
+        },
     }
 }
 

@@ -125,11 +125,11 @@ pub struct Unwound {
     pub resumed: Resumed,
 }
 
-// A frame that the walk is past: its record, where no row was found or asked for; or the start of the record, and the row.
+// A frame that the walk is past: its record and its row, none where no row was found or asked for.
 #[derive(Clone, Copy)]
-enum Met {
-    Rowless(Record),
-    WithRow(usize, Row),
+struct Met {
+    record: Record,
+    row: Option<Row>,
 }
 
 // A throw and the calls after it.

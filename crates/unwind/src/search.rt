@@ -18,13 +18,14 @@ use rows::Action;
 use std::ops::ControlFlow;
 
 // What a frame that was met says: a catch chooses the frame, a cleanup and no row are passed over, terminate stops the search.
+#[tactic(auto, unfolding(personality::specs::Reason::searched_code))]
 fn search_turn(number: usize, sp: usize, met: Option<Met>) -> ControlFlow<RaiseAnswer>
     ensures { SearchTurn number sp met result }
 {
     match met {
         None => ControlFlow::Break(RaiseAnswer::Ended),
-        Some(Met::Rowless(_)) => ControlFlow::Continue(()),
-        Some(Met::WithRow(_, row)) => match row.action {
+        Some(Met { row: None, .. }) => ControlFlow::Continue(()),
+        Some(Met { row: Some(row), .. }) => match row.action {
             Action::Cleanup => ControlFlow::Continue(()),
             Action::Catch => ControlFlow::Break(RaiseAnswer::Chosen(number, sp)),
             Action::Terminate => ControlFlow::Break(RaiseAnswer::Stopped),

@@ -133,13 +133,17 @@ fn locate(
     }
 }
 
-// A row that was found, with its record.
+// A frame that was met, with its row. The row goes by its parts: as a whole it was stored as two words and loaded as one, 4 ns a frame
+// of a throw.
 fn met_row(record: Record, row: Option<Row>) -> Met
     ensures { result ≡ met_row «record» row }
 {
     match row {
-        None => Met::Rowless(record),
-        Some(row) => Met::WithRow(record.start, row),
+        None => Met { record, row: None },
+        Some(Row { action, pad }) => Met {
+            record,
+            row: Some(Row { action, pad }),
+        },
     }
 }
 
@@ -203,7 +207,7 @@ fn meet_at(
     let at = looked_up(interrupted, pc);
     past(memory, arch, number, interrupted, record, at, file)?;
     if !row_asked {
-        return Ok(Met::Rowless(record));
+        return Ok(Met { record, row: None });
     }
     let row = handler_at(memory, record.handlers, (pc - record.start) % 0x1_0000_0000)?;
     Ok(met_row(record, row))

@@ -8,9 +8,7 @@ ghost use Rattle.unwind.specs.Answers.{frame_with, frame_at, staying, stepped, s
 ghost use Rattle.unwind.specs.Batches.{given_as, given, no_frames, walk_from, walked_by, batch_handed, walking};
 
 use crate::step::meet;
-use crate::{
-    BATCH_FRAMES, Batch, Frame, Frames, Met, NEXT_INTERRUPTED, Stepped, WalkAnswer,
-};
+use crate::{BATCH_FRAMES, Batch, Frame, Frames, NEXT_INTERRUPTED, Stepped, WalkAnswer};
 use arch::{COLUMNS, PC_COLUMN, Regs, sp_column};
 use failure::Failure;
 use frame::require_accepted;
@@ -37,17 +35,15 @@ fn step_from(memory: &Memory<'_>, arch: u8, frame: Frame) -> Stepped
         false,
         &mut file,
     ) {
-        Ok(Some(Met::Rowless(record))) => Stepped {
+        Ok(Some(met)) => Stepped {
             frame: Frame {
                 regs: Regs { r: file },
                 number: frame.number + 1,
                 interrupted: NEXT_INTERRUPTED,
             },
-            answer: Ok(Some(record)),
+            answer: Ok(Some(met.record)),
         },
         Ok(None) => stayed(Ok(None), frame),
-        // no row is asked for, so none is met
-        Ok(Some(Met::WithRow(_, _))) => stayed(Ok(None), frame),
         Err(failure) => stayed(Err(failure), frame),
     }
 }
@@ -74,10 +70,8 @@ fn pass(
         given arch (lent_by memory.now) (frame_with number interrupted file.old) }
 {
     match meet(memory, arch, number, interrupted, false, file)? {
-        Some(Met::Rowless(record)) => Ok(Some(record.start)),
+        Some(met) => Ok(Some(met.record.start)),
         None => Ok(None),
-        // no row is asked for, so none is met
-        Some(Met::WithRow(_, _)) => Ok(None),
     }
 }
 

@@ -15,7 +15,7 @@ use Rattle.failure.proofs.Outcome.{answer-refused}
 use Rattle.mem.specs.Memory.{Lent}
 use Rattle.mem.specs.Wrapping.{sum}
 use Rattle.arch.specs.Arch.{numbers}
-use Rattle.arch.specs.File.{sp, pc, set_pc}
+use Rattle.arch.specs.File.{sp, set_pc}
 use Rattle.rows.specs.Row as Row
 use Rattle.rows.specs.Row.{Found, number_of, catch}
 use Rattle.rows.specs.declared.Action.{Action}
@@ -24,22 +24,20 @@ use Rattle.rows.specs.declared.Action.TheVariants as action
 use Rattle.rows.specs.contracts.Action.{the_type}
 use denote.Enum.Bare.{sameb}
 use Rattle.lookup.specs.declared.Record.{Record}
-use Rattle.personality.specs.Reason.{row_of}
 use Rattle.personality.proofs.Reasons.{install}
 use Rattle.model.specs.declared.Unwinding.{Unwinding}
-use Rattle.model.specs.FrameStep as Walk
-use Rattle.model.specs.FrameStep.{Frame, Step, next_interrupted, caller_of, frame_step}
+use Rattle.model.specs.FrameStep.{Frame, next_interrupted, caller_of, frame_step}
 use Rattle.model.specs.Cleanup as Cleanup
 use Rattle.model.specs.Cleanup.{Choice, Cleaned, install_pad, by_row, clean_at, clean_from, clean}
 use Rattle.model.specs.Unwinding.{frame_of, choice_of, going_on, resume}
 use Rattle.unwind.specs.Answers.{accepts, frame_with, Handed, unmoved, resumed_by}
-use Rattle.unwind.specs.Turns.{Seen, End, Past, row_as, seen_at, seen, seen_any, MeetsAny, clean_row, clean_past, clean_by, install_at, clean_or}
+use Rattle.unwind.specs.Turns.{Seen, row_as, seen_any, MeetsAny, clean_row, clean_past, clean_by, install_at, clean_or}
 use Rattle.unwind.specs.declared.Met.{Met}
 use Rattle.unwind.specs.declared.ResumeAnswer.{ResumeAnswer}
 use Rattle.unwind.specs.declared.ResumeAnswer.TheVariants as answer
 use Rattle.unwind.specs.declared.cleanup.Cleaning.{Cleaning}
 use Rattle.unwind.specs.declared.cleanup.Cleaning.TheVariants.{On, Install, Fatal}
-use Rattle.unwind.proofs.Meeting.{seen_below, caller_held}
+use Rattle.unwind.proofs.Meeting.{by_seen, seen_then, seen_below, caller_held}
 use Rattle.unwind.proofs.Opened.{opened_by}
 
 -- what `==` says of an action and a catch
@@ -70,9 +68,9 @@ module _ (arch : ℕ) (l : Lent) (exception : ℕ) (c : Choice) (f : Frame) wher
       (if eqb action 0 then Answer (Install start pad) else if eqb action 1 then Outcome.Refused 22 else Answer Fatal)
       else (if eqb action 1 && same then Answer (Install start pad) else Outcome.Refused 22)
 
-  abbrev by_seen : (Frame → Outcome Cleaned) → Seen → Outcome Cleaned
-  by_seen rest End = Outcome.Refused 22
-  by_seen rest (Past r next row) = by_row (numbers arch) exception c f r next (rest next) row
+  -- what a frame's row says
+  abbrev by_found : (Frame → Outcome Cleaned) → Record → Frame → Found → Outcome Cleaned
+  by_found rest r next row = by_row (numbers arch) exception c f r next (rest next) row
 
   -- a row, where it is known how the numbers and the action compare
   by_row_lem : (r : Record) (next : Frame) (rest : Outcome Cleaned) (pad action : ℕ) →
@@ -91,24 +89,15 @@ module _ (arch : ℕ) (l : Lent) (exception : ℕ) (c : Choice) (f : Frame) wher
       go false p z q true v false w = rw (p, v, w)
       go false p z q false v s w = rw (p, v)
 
-  by_seen_lem : (rest : Frame → Outcome Cleaned) (o : Outcome Step) →
-      (o >>= clean_at arch l exception c f rest) ≡ ((o >>= seen_at true arch l f) >>= by_seen rest)
-  by_seen_lem rest (Outcome.Refused n) = refl
-  by_seen_lem rest (Answer Walk.End) = refl
-  by_seen_lem rest (Answer (Walk.Past r next)) = go (row_of (numbers arch) l.regions f.interrupted r (pc f.file))
-    where
-      go : (o : Outcome Found) →
-          (o >>= by_row (numbers arch) exception c f r next (rest next))
-          ≡ ((o >>= λ row. Answer (Past r next row)) >>= by_seen rest)
-      go (Outcome.Refused n) = refl
-      go (Answer row) = refl
-
   -- the same of a frame that was met
   by_met : (file : List ℕ) (x : Result (Option Met) Failure) → MeetsAny true arch l f file x → (rest : Frame → Outcome Cleaned) →
       (frame_step arch l f >>= clean_at arch l exception c f rest)
       ≡ clean_or (numbers arch) exception f (caller_of l f file) (clean_by below same (outcome x)) (rest (caller_of l f file))
-  unfolding seen clean_row
-  by_met file x e rest = by_seen_lem rest (frame_step arch l f) ∙ ap (λ (o : Outcome Seen). o >>= by_seen rest) (sym e) ∙ go x
+  unfolding clean_row
+  by_met file x e rest =
+      seen_then arch l f (clean_at arch l exception c f rest) (by_found rest) (λ r next. refl)
+      ∙ ap (λ (o : Outcome Seen). o >>= by_seen (Outcome.Refused 22) (by_found rest)) (sym e)
+      ∙ go x
     where
       rowless : (b : Bool) →
           (if b then rest (caller_of l f file) else Outcome.Refused 22)
@@ -123,7 +112,7 @@ module _ (arch : ℕ) (l : Lent) (exception : ℕ) (c : Choice) (f : Frame) wher
       past r (Some row) = by_row_lem r (caller_of l f file) (rest (caller_of l f file)) row.pad (number_of row.action)
 
       go : (x : Result (Option Met) Failure) →
-          (map (seen_any l f file) (outcome x) >>= by_seen rest)
+          (map (seen_any l f file) (outcome x) >>= by_seen (Outcome.Refused 22) (by_found rest))
           ≡ clean_or (numbers arch) exception f (caller_of l f file) (clean_by below same (outcome x)) (rest (caller_of l f file))
       go (Err n) = refl
       go (Ok None) = refl

@@ -25,6 +25,28 @@ use Rattle.unwind.specs.Turns.{record_of, Seen, End, Past, seen_at, seen, caller
 use Rattle.unwind.specs.declared.Met.{Met}
 use Rattle.unwind.proofs.Walks.{record_in, step_by_record, record_bounds, by_run, by_run_refused}
 
+-- what a frame comes to, by what follows the end and what follows its row
+abbrev pub by_seen : {A : Type 0} → Outcome A → (Record → Frame → Found → Outcome A) → Seen → Outcome A
+by_seen end on End = end
+by_seen end on (Past r next row) = on r next row
+
+-- what follows a frame's step, where past the frame its row is looked for
+pub seen_then : {A : Type 0} (arch : ℕ) (l : Lent) (f : Frame) (k : Step → Outcome A) (on : Record → Frame → Found → Outcome A) →
+    ((r : Record) (next : Frame) → k (Walk.Past r next) ≡ (row_of (numbers arch) l.regions f.interrupted r (pc f.file) >>= on r next)) →
+    (frame_step arch l f >>= k) ≡ (seen true arch l f >>= by_seen (k Walk.End) on)
+unfolding seen
+seen_then arch l f k on h = go (frame_step arch l f)
+  where
+    by_row : (r : Record) (next : Frame) (o : Outcome Found) →
+        (o >>= on r next) ≡ ((o >>= λ row. Answer (Past r next row)) >>= by_seen (k Walk.End) on)
+    by_row r next (Refused n) = refl
+    by_row r next (Answer row) = refl
+
+    go : (o : Outcome Step) → (o >>= k) ≡ ((o >>= seen_at true arch l f) >>= by_seen (k Walk.End) on)
+    go (Refused n) = refl
+    go (Answer Walk.End) = refl
+    go (Answer (Walk.Past r next)) = h r next ∙ by_row r next (row_of (numbers arch) l.regions f.interrupted r (pc f.file))
+
 -- a frame's step and row, by its record
 pub seen-located : (arch : ℕ) (l : Lent) (f : Frame) (o : Outcome (Option Record)) → o ≡ record_in arch l f → (rows : Bool) →
     ((o >>= past_found (numbers arch) l f) >>= seen_at rows arch l f) ≡ seen rows arch l f

@@ -14,19 +14,17 @@ use Rattle.failure.specs.declared.Failure.{Failure}
 use Rattle.failure.proofs.Outcome.{answer-refused}
 use Rattle.mem.specs.Memory.{Lent}
 use Rattle.arch.specs.Arch.{numbers}
-use Rattle.arch.specs.File.{pc}
 use Rattle.rows.specs.Row.{Found}
 use Rattle.rows.specs.declared.Row.{Row}
-use Rattle.personality.specs.Reason.{row_of}
-use Rattle.model.specs.FrameStep as Walk
-use Rattle.model.specs.FrameStep.{Frame, Step, next_interrupted, caller_of, frame_step}
+use Rattle.lookup.specs.declared.Record.{Record}
+use Rattle.model.specs.FrameStep.{Frame, next_interrupted, caller_of, frame_step}
 use Rattle.model.specs.Search as Search
 use Rattle.model.specs.Search.{Searched, search_code, by_code, search_at, search_from, search}
 use Rattle.unwind.specs.Answers.{frame_with, searched}
-use Rattle.unwind.specs.Turns.{Seen, End, Past, row_as, seen_at, seen, seen_any, MeetsAny, search_or, search_row, search_met, SearchTurn}
+use Rattle.unwind.specs.Turns.{Seen, row_as, seen, seen_any, MeetsAny, search_or, search_row, search_met, SearchTurn}
 use Rattle.unwind.specs.declared.Met.{Met}
 use Rattle.unwind.specs.declared.RaiseAnswer.{RaiseAnswer}
-use Rattle.unwind.proofs.Meeting.{seen_below, caller_held}
+use Rattle.unwind.proofs.Meeting.{by_seen, seen_then, seen_below, caller_held}
 
 -- the search has come to a frame; the fuel left is enough for the frames that may still be given
 pub record Searching (arch : ℕ) (l : Lent) (whole : Outcome Searched) (f : Frame) : Type 0 where
@@ -40,27 +38,14 @@ module _ (arch : ℕ) (l : Lent) (f : Frame) where
   unfolding search
   searching_begin = record { fuel = 1024; left = refl; enough = omega arith }
 
-  -- what a frame's step and row say
-  abbrev by_seen : (Frame → Outcome Searched) → Seen → Outcome Searched
-  by_seen rest End = Answer Search.Ended
-  by_seen rest (Past r next row) = by_code (numbers arch) f (search_code row) (rest next)
-
-  by_seen_lem : (rest : Frame → Outcome Searched) (o : Outcome Step) →
-      (o >>= search_at arch l f rest) ≡ ((o >>= seen_at true arch l f) >>= by_seen rest)
-  by_seen_lem rest (Outcome.Refused n) = refl
-  by_seen_lem rest (Answer Walk.End) = refl
-  by_seen_lem rest (Answer (Walk.Past r next)) = go (row_of (numbers arch) l.regions f.interrupted r (pc f.file))
-    where
-      go : (o : Outcome Found) →
-          (o >>= λ row. by_code (numbers arch) f (search_code row) (rest next))
-          ≡ ((o >>= λ row. Answer (Past r next row)) >>= by_seen rest)
-      go (Outcome.Refused n) = refl
-      go (Answer row) = refl
+  -- what a frame's row says
+  abbrev by_row : (Frame → Outcome Searched) → Record → Frame → Found → Outcome Searched
+  by_row rest r next row = by_code (numbers arch) f (search_code row) (rest next)
 
   -- the search by a frame's step and row
-  by_frame : (rest : Frame → Outcome Searched) → (frame_step arch l f >>= search_at arch l f rest) ≡ (seen true arch l f >>= by_seen rest)
-  unfolding seen
-  by_frame rest = by_seen_lem rest (frame_step arch l f)
+  by_frame : (rest : Frame → Outcome Searched) →
+      (frame_step arch l f >>= search_at arch l f rest) ≡ (seen true arch l f >>= by_seen (Answer Search.Ended) (by_row rest))
+  by_frame rest = seen_then arch l f (search_at arch l f rest) (by_row rest) (λ r next. refl)
 
   module _ (whole : Outcome Searched) (s : Searching arch l whole f) (file : List ℕ) (x : Result (Option Met) Failure)
       (e : MeetsAny true arch l f file x) where
@@ -69,10 +54,12 @@ module _ (arch : ℕ) (l : Lent) (f : Frame) where
 
     -- what is left, by how the frame was met
     by_meeting : (v : Result (Option Met) Failure) → x ≡ v →
-        whole ≡ (map (seen_any l f file) (outcome v) >>= by_seen (λ h. search_from s.fuel arch l h))
+        whole ≡ (map (seen_any l f file) (outcome v) >>= by_seen (Answer Search.Ended) (by_row (λ h. search_from s.fuel arch l h)))
     by_meeting v p =
         s.left ∙ by_frame (λ h. search_from s.fuel arch l h)
-        ∙ ap (λ (o : Outcome Seen). o >>= by_seen (λ h. search_from s.fuel arch l h)) (sym e ∙ ap (λ (y : Result (Option Met) Failure). map (seen_any l f file) (outcome y)) p)
+        ∙ ap
+        (λ (o : Outcome Seen). o >>= by_seen (Answer Search.Ended) (by_row (λ h. search_from s.fuel arch l h)))
+        (sym e ∙ ap (λ (y : Result (Option Met) Failure). map (seen_any l f file) (outcome y)) p)
 
     -- a refusal is the search's
     pub searching_refused : (n : Failure) → x ≡ Err n → whole ≡ Outcome.Refused (number n)
@@ -84,15 +71,16 @@ module _ (arch : ℕ) (l : Lent) (f : Frame) where
       by_turn : whole ≡ search_or t rest
       by_turn = by_meeting (Ok w) p ∙ go w ∙ sym (g rest)
         where
-          by_row : (row : Option Row) →
+          told : (row : Option Row) →
               by_code (numbers arch) f (search_code (row_as row)) rest ≡ search_row f.number (get_or f.file k 0) row rest
-          by_row None = refl
-          by_row (Some row) = rw q refl
+          told None = refl
+          told (Some row) = rw q refl
 
           go : (w : Option Met) →
-              (Answer (seen_any l f file w) >>= by_seen (λ h. search_from s.fuel arch l h)) ≡ search_met f.number (get_or f.file k 0) w rest
+              (Answer (seen_any l f file w) >>= by_seen (Answer Search.Ended) (by_row (λ h. search_from s.fuel arch l h)))
+              ≡ search_met f.number (get_or f.file k 0) w rest
           go None = refl
-          go (Some w) = by_row w.row
+          go (Some w) = told w.row
 
       -- a turn that goes on has passed the frame
       pub searching_below : (z : Unit {0}) → t ≡ Continue z → f.number < 1024

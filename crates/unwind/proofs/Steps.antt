@@ -1,16 +1,16 @@
 -- Laws of a frame's step, as a walk makes it. Assumes nothing.
-use Rattle.std.proofs.Common.{◌≡◌, Bool, true, false, List, ℕ, ◌<◌, eqb, ltb, Result, Option, None, refl, sym, ap, ◌∙◌, ltb-true}
+use Rattle.std.proofs.Common.{◌≡◌, false, List, ℕ, ◌<◌, Result, Option, None, refl, sym, ap, ◌∙◌}
 use Rattle.failure.specs.Outcome.{Outcome, Refused, Answer, outcome, map, ◌>>=◌}
-use Rattle.failure.specs.Failure.{TooManyFrames}
 use Rattle.failure.specs.declared.Failure.{Failure}
 use Rattle.mem.specs.Memory.{Lent}
-use Rattle.arch.specs.File.{pc}
 use Rattle.lookup.specs.declared.Record.{Record}
 use Rattle.model.specs.FrameStep as Walk
 use Rattle.model.specs.FrameStep.{Frame, Step, frame_step}
 use Rattle.unwind.specs.declared.Met.{Met}
 use Rattle.unwind.specs.Answers.{staying, stepped}
+use Rattle.rows.specs.Row.{Found}
 use Rattle.unwind.specs.Turns.{Seen, End, Past, seen, seen_at, seen_any, MeetsAny}
+use Rattle.unwind.proofs.Meeting.{seen_below}
 
 -- the step that was seen
 abbrev pub step_of : Seen → Step
@@ -33,13 +33,9 @@ step_met arch l f file x v e p =
 -- fewer than 1,024 frames come before one that the walk is past
 pub past_below : (arch : ℕ) (l : Lent) (f : Frame) (r : Record) (next : Frame) → Answer (Walk.Past r next) ≡ frame_step arch l f →
     f.number < 1024
-unfolding frame_step
-past_below arch l f r next e = go (eqb (pc f.file) 0) (ltb f.number 1024) refl refl
-  where
-    go : (s t : Bool) → eqb (pc f.file) 0 ≡ s → ltb f.number 1024 ≡ t → f.number < 1024
-    go true t p q = let b : Answer (Walk.Past r next) ≡ Answer Walk.End = rw p at e in absurd cc
-    go false true p q = ltb-true f.number 1024 q
-    go false false p q = let b : Answer (Walk.Past r next) ≡ Refused TooManyFrames = rw (p, q) at e in absurd cc
+unfolding seen
+past_below arch l f r next e =
+    seen_below false arch l f (Past r next Found.None) (ap (λ (o : Outcome Step). o >>= seen_at false arch l f) e) (λ q. absurd cc)
 
 -- the end of the walk and a refusal hand back the frame that came in
 pub stays : (f : Frame) (o : Outcome Step) → Answer Walk.End ≡ o → staying (Answer None) f ≡ stepped f o

@@ -133,8 +133,8 @@ fn locate(
     }
 }
 
-// A frame that was met, with its row. The row goes by its parts: as a whole it was stored as two words and loaded as one, 4 ns a frame
-// of a throw.
+// A frame that was met, with its row. The row goes by its parts: copied whole it is stored as two words and loaded as one, which takes
+// 4 ns a frame of a throw.
 fn met_row(record: Record, row: Option<Row>) -> Met
     ensures { result ≡ met_row «record» row }
 {

@@ -2,7 +2,7 @@
 use mathlib.Core.Path.{◌≡◌, refl, ap, subst}
 use mathlib.Core.Bool.{Bool, true, false, and-false}
 use mathlib.Core.List.{List}
-use mathlib.Core.Logic.{⊎_elim, inl, inr}
+use mathlib.Core.Logic.{⊎_elim}
 use Rattle.std.specs.Prelude.{if◌then◌else◌}
 use Prim.Native.Nat.{ℕ, ◌+◌, ◌-◌, ◌*◌, ◌^◌, ◌≤◌, ◌<◌, max}
 use native.Mathlib.Omega.{arith}
@@ -39,7 +39,7 @@ module _ (m : Memory) (at depth : ℕ) (near : Near m at depth) where
       record {
         low = omega (arith, near.low);
         high = near.high;
-        off = ⊎_elim (λ (e : m.section_base + length m.section.now + 8 * depth ≤ at). inl (omega arith)) (λ (e : at ≤ m.section_base). inr e) near.off;
+        off = λ p. omega (arith, near.off p);
       }
 
 -- a slot that is near is read from the stack
@@ -50,9 +50,9 @@ module _ (m : Memory) (at slot : ℕ) (near : Near m at slot) (some : 0 < slot) 
   not_section : holds m.section_base (length m.section.now) (at - 8 * slot) 8 ≡ false
   not_section =
       ⊎_elim
-      (λ (e : m.section_base + length m.section.now + 8 * slot ≤ at). past_end m.section_base (length m.section.now) (at - 8 * slot) (omega arith))
+      (λ (e : m.section_base < at). past_end m.section_base (length m.section.now) (at - 8 * slot) (omega (arith, near.off e)))
       (λ (e : at ≤ m.section_base). before-start m.section_base (length m.section.now) (at - 8 * slot) (omega (arith, near.low)))
-      near.off
+      (lt_or_le m.section_base at)
 
   in_stack : holds m.stack_base (length m.stack.now) (at - 8 * slot) 8 ≡ true
   in_stack = holds_when m.stack_base (length m.stack.now) (at - 8 * slot) 8 (omega (arith, near.low)) (omega (arith, near.low, near.high))

@@ -2,15 +2,13 @@
 use mathlib.Core.Path.{◌≡◌, refl, ◌∙◌, ap}
 use mathlib.Core.Bool.{Bool, true, false}
 use mathlib.Core.List.{List, [], ◌∷◌}
-use Prim.Native.Nat.{ℕ, ◌+◌, ◌%◌, ◌/◌, ◌^◌, ◌≤◌, ◌<◌}
+use Prim.Native.Nat.{ℕ, zero, suc, ◌+◌, ◌-◌, ◌%◌, ◌/◌, ◌^◌, ◌≤◌, ◌<◌}
 use native.Mathlib.Nat.{pow-suc}
 use native.Mathlib.Omega.{arith}
-use native.Mathlib.Numerals.{add-one}
 use lib.Dec.{eqb, lit≤}
-use lib.Count.{ones, ones_in, ones_step}
-use lib.ListN.{length, get_or, drop}
-use lib.Seq.{drop-cons}
-use borrow.Author.Tests.{eqb-true, eqb-false, eq-eqb, ne_eqb}
+use lib.Count.{ones, ones_in, ones_step, count_trailing_zeros, under}
+use lib.ListN.{length, get_or}
+use borrow.Author.Tests.{eqb-true, eqb-false}
 use Rattle.arch.specs.Arch.{Arch, numbers}
 use Rattle.arch.proofs.Arch.{of_both}
 use Rattle.frame.specs.Frame.{named}
@@ -19,17 +17,38 @@ use Rattle.frame.specs.Frame.{named}
 pub table-short : (n : ℕ) → length (numbers n).saved ≤ 18
 table-short = of_both (λ (a : Arch). length a.saved ≤ 18) (lit≤ tt) (lit≤ tt)
 
--- a bit that is set names its register
-pub named_set :
-    (m : ℕ) (table : List ℕ) (bit : ℕ) → bit < length table → m % 2 ≡ 1 →
-    named m (drop bit table) ≡ get_or table bit 0 ∷ named (m / 2) (drop (bit + 1) table)
-named_set m table bit h e = rw (add-one, drop-cons table bit 0 h, eq-eqb (m % 2) 1 e)
+-- of the bits that name registers the lowest names the first; the others are left without it
+pub record First (m : ℕ) (table : List ℕ) (bit : ℕ) : Type 0 where
+  pub place : bit < length table
+  pub some : 2 ^ bit ≤ m
+  pub names : named m table ≡ get_or table bit 0 ∷ named (m - 2 ^ bit) table
 
--- one that is not names none
-pub named-clear :
-    (m : ℕ) (table : List ℕ) (bit : ℕ) → bit < length table → (m % 2 ≡ 1 → ⊥) →
-    named m (drop bit table) ≡ named (m / 2) (drop (bit + 1) table)
-named-clear m table bit h e = rw (add-one, drop-cons table bit 0 h, ne_eqb (m % 2) 1 e)
+pub named_first : (digits m : ℕ) (table : List ℕ) → length table ≤ digits → 0 < length (named m table) → First m table (count_trailing_zeros digits m)
+unfolding count_trailing_zeros
+named_first digits m [] h some = absurd (omega arith)
+named_first zero m (reg ∷ table) h some = absurd (omega arith)
+named_first (suc digits) m (reg ∷ table) h some =
+    go (m % 2) refl (λ e. named_first digits (m / 2) table (omega arith) (rw e at some))
+  where
+    later : First (m / 2) table (count_trailing_zeros digits (m / 2)) → m % 2 ≡ 0 → First m (reg ∷ table) (suc (count_trailing_zeros digits (m / 2)))
+    later f e =
+        let p = pow-suc 2 (count_trailing_zeros digits (m / 2)) in
+        let even : (m - 2 ^ suc (count_trailing_zeros digits (m / 2))) % 2 ≡ 0 = omega (arith, p, f.some, e) in
+        let half : (m - 2 ^ suc (count_trailing_zeros digits (m / 2))) / 2 ≡ m / 2 - 2 ^ count_trailing_zeros digits (m / 2) = omega (arith, p, f.some, e) in
+        record {
+          place = omega (arith, f.place);
+          some = omega (arith, p, f.some, e);
+          names = rw (e, even, half) f.names;
+        }
+
+    go : (d : ℕ) → m % 2 ≡ d → (m % 2 ≡ 0 → First (m / 2) table (count_trailing_zeros digits (m / 2))) →
+        First m (reg ∷ table) (under (m % 2) (count_trailing_zeros digits (m / 2)))
+    go zero e rest = rw e (later (rest e) e)
+    go (suc d) e rest =
+        let one : m % 2 ≡ 1 = omega (arith, e) in
+        let even : (m - 1) % 2 ≡ 0 = omega (arith, one) in
+        let half : (m - 1) / 2 ≡ m / 2 = omega (arith, one) in
+        rw one (record { place = omega arith; some = omega (arith, one); names = rw (one, even, half) refl })
 
 -- a mask of 0 names none
 pub named-zero : (table : List ℕ) → named 0 table ≡ []

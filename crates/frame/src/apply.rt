@@ -10,9 +10,9 @@ ghost use Rattle.frame.specs.Layout.{pair_count, layout, base};
 ghost use Rattle.frame.specs.Apply as Apply;
 ghost use Rattle.frame.specs.Public as Public;
 ghost use Rattle.frame.specs.Answers.{Partly};
-ghost use Rattle.frame.specs.Near.{Usable, Within};
+ghost use Rattle.frame.specs.Near.{HasPairs, Usable, Within};
 
-use crate::slots::{Anywhere, InStack, Slots, near};
+use crate::slots::{Anywhere, InStack, Slots};
 use crate::{bad_fp, ra_column, require_accepted, return_to};
 use arch::{COLUMNS, Next, Regs};
 use failure::Failure;
@@ -35,8 +35,7 @@ fn usable(arch: u8, reg: u16, slot: u16) -> bool
 
 // The largest slot of a state's pairs, 0 if there is none; `None` if one of them is not usable.
 fn reach(arch: u8, state: &State) -> Option<usize>
-    ensures { IfSome result (λ depth. (depth < 65536) ×
-        Within (Arch.numbers arch) state.now.regs state.now.slots depth (pair_count state.now.count)) }
+    ensures { IfSome result (λ depth. Within (Arch.numbers arch) state.now.regs state.now.slots depth (pair_count state.now.count)) }
 {
     let n = pair_count(state);
     let mut depth: usize = 0;
@@ -51,6 +50,15 @@ fn reach(arch: u8, state: &State) -> Option<usize>
     Some(depth)
 }
 
+// Where every pair of a state is usable, and its slot in the stack.
+fn in_stack<'a>(memory: &'a Memory<'a>, arch: u8, cfa: usize, state: &State) -> Option<InStack<'a>>
+    ensures { IfSome result (λ s. (s.memory.now ≡ memory.now) × (s.cfa ≡ cfa) ×
+        Within (Arch.numbers arch) state.now.regs state.now.slots s.depth (pair_count state.now.count)) }
+{
+    let depth = reach(arch, state)?;
+    InStack::new(memory, cfa, depth)
+}
+
 // Each pair of a state in order: read, then stored.
 fn restore_pairs<S: Slots>(
     slots: &S,
@@ -58,8 +66,7 @@ fn restore_pairs<S: Slots>(
     state: &State,
     file: &mut [usize; COLUMNS],
 ) -> Result<(), Failure>
-    requires { (j : ℕ) → j < pair_count state.now.count → get_or state.now.slots j 0 < 65536 →
-        S.within slots.now (get_or state.now.slots j 0) }
+    requires { HasPairs (S.within slots.now) state.now }
     ensures { Partly
         (Apply.restore_pairs (Arch.numbers arch) (S.regions slots.now) (S.at slots.now) (layout state.now).pairs file.old)
         result file.new }
@@ -80,8 +87,7 @@ fn apply_from<S: Slots>(
     state: &State,
     file: &mut [usize; COLUMNS],
 ) -> Result<(), Failure>
-    requires { (j : ℕ) → j < pair_count state.now.count → get_or state.now.slots j 0 < 65536 →
-        S.within slots.now (get_or state.now.slots j 0) }
+    requires { HasPairs (S.within slots.now) state.now }
     ensures { Partly
         (Apply.apply_at (Arch.numbers arch) (S.regions slots.now) (S.at slots.now) (layout state.now).pairs file.old)
         result file.new }
@@ -131,11 +137,9 @@ pub fn apply_into(
 {
     let base = file[base_column(arch, state.cfa_fp)];
     let cfa = cfa_above(state.cfa_fp, state.cfa_units, base)?;
-    if let Some(depth) = reach(arch, state)
-        && near(memory, cfa, depth)
-    {
+    if let Some(slots) = in_stack(memory, arch, cfa, state) {
         // no slot is refused there, so none leaves the file half restored
-        return apply_from(&InStack { memory, cfa }, arch, state, file);
+        return apply_from(&slots, arch, state, file);
     }
     let mut copy = *file;
     apply_from(&Anywhere { memory, cfa }, arch, state, &mut copy)?;

@@ -1,6 +1,6 @@
 // The slots of a frame, each of 8 bytes, counted down from the CFA: read anywhere in what is lent, or in the stack alone, where it is
 // known that they lie there.
-ghost use Rattle.std.specs.Prelude.{◌≡◌, true, ℕ, ◌*◌, ◌≤◌, ◌<◌, length};
+ghost use Rattle.std.specs.Prelude.{◌≡◌, true, ℕ, ◌*◌, ◌≤◌, ◌<◌, length, IfSome};
 ghost use Rattle.failure.specs.Outcome.{outcome};
 ghost use Rattle.mem.specs.Memory as Lent;
 ghost use Rattle.mem.specs.Given.{lent_by};
@@ -51,11 +51,25 @@ impl<'a> Slots for Anywhere<'a> {
     }
 }
 
-// Below a CFA, in the stack.
+// Below a CFA, in the stack: slots 1 to depth lie there, and no byte of them in the section.
 #[derive(Clone, Copy)]
 pub struct InStack<'a> {
-    pub memory: &'a Memory<'a>,
-    pub cfa: usize,
+    memory: &'a Memory<'a>,
+    cfa: usize,
+    depth: usize,
+    ghost near: { Near memory.now cfa depth },
+}
+
+impl<'a> InStack<'a> {
+    // `None` where the slots do not lie so.
+    pub fn new(memory: &'a Memory<'a>, cfa: usize, depth: usize) -> Option<Self>
+        ensures { IfSome result (λ s. (s.memory.now ≡ memory.now) × (s.cfa ≡ cfa) × (s.depth ≡ depth)) }
+    {
+        if !near(memory, cfa, depth) {
+            return None;
+        }
+        Some(InStack { memory, cfa, depth })
+    }
 }
 
 impl<'a> Slots for InStack<'a> {
@@ -63,7 +77,7 @@ impl<'a> Slots for InStack<'a> {
 
     ghost at = { λ s. s.cfa };
 
-    ghost within = { λ s slot. (0 < slot) × Near s.memory.now s.cfa slot };
+    ghost within = { λ s slot. (0 < slot) × (slot ≤ s.depth) };
 
     fn cfa(&self) -> usize {
         self.cfa
@@ -76,15 +90,14 @@ impl<'a> Slots for InStack<'a> {
 }
 
 // Slots 1 to depth lie in the stack, and no byte of them in the section.
-pub(crate) fn near(memory: &Memory<'_>, cfa: usize, depth: usize) -> bool
-    requires { depth < 65536 }
+fn near(memory: &Memory<'_>, cfa: usize, depth: usize) -> bool
     ensures { result ≡ true → Near memory.now cfa depth }
 {
     if cfa < memory.stack_base {
         return false;
     }
     let top = cfa - memory.stack_base;
-    if memory.stack.len() < top || top < 8 * depth {
+    if memory.stack.len() < top || top / 8 < depth {
         return false;
     }
     if cfa <= memory.section_base {

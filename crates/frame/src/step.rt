@@ -11,9 +11,9 @@ ghost use Rattle.frame.specs.Frame as Frame;
 ghost use Rattle.frame.specs.Step as Step;
 ghost use Rattle.frame.specs.Public as Public;
 ghost use Rattle.frame.specs.Answers.{Partly};
-ghost use Rattle.frame.specs.Near.{deepest, Saves};
+ghost use Rattle.frame.specs.Near.{HasSaved, Saves};
 
-use crate::slots::{Anywhere, InStack, Slots, near};
+use crate::slots::{Anywhere, InStack, Slots};
 use crate::{
     KIND_FP, deepest, frame_cfa, kind, mask, named_count, ra_column, ra_slot, require_accepted,
     return_to, saved_column, slot_of,
@@ -30,27 +30,19 @@ fn restore_named<S: Slots>(
     n: usize,
     file: &mut [usize; COLUMNS],
 ) -> Result<(), Failure>
-    requires { Saves (Arch.numbers arch) frame n × ((slot : ℕ) → 0 < slot → slot ≤ deepest frame n → S.within slots.now slot) }
+    requires { HasSaved (S.within slots.now) (Arch.numbers arch) frame n }
     ensures { Partly
         (Apply.restore_pairs (Arch.numbers arch) (S.regions slots.now) (S.at slots.now)
         (Frame.saved_pairs (Arch.numbers arch) frame) file.old)
         result file.new }
 {
-    // no `for` over the table: the highest bit that is set ends the loop
+    // the lowest bit that is left names the next register
     let mut rest = mask(frame);
-    let mut bit = 0;
-    let mut k = 0;
-    while rest != 0 {
-        let column = saved_column(arch, bit);
-        // the lowest bit of the rest, which is then without it
-        let named = rest % 2;
-        rest /= 2;
-        bit += 1;
-        if named == 1 {
-            let slot = slot_of(frame, n, k);
-            k += 1;
-            file[column] = slots.load(slot)?;
-        }
+    for k in 0..n {
+        let bit = rest.trailing_zeros();
+        rest -= 1 << bit;
+        let column = saved_column(arch, bit as usize);
+        file[column] = slots.load(slot_of(frame, n, k))?;
     }
     Ok(())
 }
@@ -106,7 +98,7 @@ fn step_from<S: Slots>(
     n: usize,
     file: &mut [usize; COLUMNS],
 ) -> Result<(), Failure>
-    requires { Saves (Arch.numbers arch) frame n × ((slot : ℕ) → 0 < slot → slot ≤ deepest frame n → S.within slots.now slot) }
+    requires { HasSaved (S.within slots.now) (Arch.numbers arch) frame n }
     ensures { Partly
         (Step.step_at (Arch.numbers arch) (S.regions slots.now) frame (S.at slots.now) file.old)
         result file.new }
@@ -131,9 +123,9 @@ fn step_at(
         (Step.step_at (Arch.numbers arch) (lent_by memory.now).regions frame cfa file.old)
         result file.new }
 {
-    if near(memory, cfa, deepest(frame, n)) {
+    if let Some(slots) = InStack::new(memory, cfa, deepest(frame, n)) {
         // no slot is refused there, so none leaves the file half restored
-        return step_from(&InStack { memory, cfa }, arch, frame, n, file);
+        return step_from(&slots, arch, frame, n, file);
     }
     let mut copy = *file;
     step_from(&Anywhere { memory, cfa }, arch, frame, n, &mut copy)?;

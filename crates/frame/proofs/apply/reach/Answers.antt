@@ -6,5 +6,4 @@ use Rattle.frame.proofs.apply.reach.Goals as goal
 pub loop-i-preserved : goal.loop-i-preserved
 loop-i-preserved c =
     let st = c.args.state.now in
-    let inv = c.loop-i.invariant in
-    (omega (arith, inv.0), within_turn _ st.regs st.slots _ _ _ inv.1 _ refl (c.usable.ensures c.if-not-usable.false) (omega arith) (omega arith))
+    within_turn _ st.regs st.slots _ _ _ c.loop-i.invariant _ refl (c.usable.ensures c.if-not-usable.false) (omega arith) (omega arith)

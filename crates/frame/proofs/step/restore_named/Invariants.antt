@@ -1,15 +1,12 @@
--- `frame::step::restore_named` meets its contract: each turn restores one register of the mask, or none. Assumes nothing.
+-- `frame::step::restore_named` meets its contract: each turn restores one register of the mask. Assumes nothing.
 use Rattle.arch.specs.Arch.{numbers}
 use Rattle.frame.specs.Apply.{restore_pairs}
 use Rattle.frame.specs.Frame.{saved_pairs}
 use Rattle.frame.proofs.SavedTurn.{SavedTurn}
 use Rattle.frame.proofs.step.restore_named.Given as goal
 
-abbrev pub invariant-loop-rest : goal.invariant-loop-rest
-invariant-loop-rest g l =
+abbrev pub invariant-loop-k : goal.invariant-loop-k
+invariant-loop-k g l =
     let m = g.S.Slots.regions l.slots in
     let at = g.S.Slots.at l.slots in
-    SavedTurn (numbers l.arch) m at l.frame l.n (restore_pairs (numbers l.arch) m at (saved_pairs (numbers l.arch) l.frame) l.initial.file) l.file l.rest l.bit l.k
-
-abbrev pub decreases-loop-rest : goal.decreases-loop-rest
-decreases-loop-rest g l = l.rest
+    SavedTurn (numbers l.arch) m at l.frame l.n (restore_pairs (numbers l.arch) m at (saved_pairs (numbers l.arch) l.frame) l.initial.file) l.file l.rest l.k

@@ -13,7 +13,7 @@ returns-in_err-restore_named g c =
     (sym (saved-stops _ _ _ _ _ _ (refused_partly _ _ _ _ c.restore_named.ensures c.in_err-restore_named.was)))
 
 pub return_address-requires : goal.return_address-requires
-return_address-requires g c = c.requires.1 1 (lit< tt) (omega (arith, (deepest_bounds c.args.frame c.args.n).0))
+return_address-requires g c = c.requires.slots 1 (lit< tt) (omega (arith, (deepest_bounds c.args.frame c.args.n).0))
 
 pub returns-in_err-ra : goal.returns-in_err-ra
 returns-in_err-ra g c =
@@ -24,7 +24,7 @@ returns-in_err-ra g c =
     sym (address_refused _ _ _ _ c.args.file.now _ _ refl _ (sym (ap outcome c.in_err-ra.was) ∙ c.return_address.ensures c.args.file.now held)))
 
 pub set_frame-requires : goal.set_frame-requires
-set_frame-requires g c = c.requires.1 2 (lit< tt) (deepest_bounds c.args.frame c.args.n).0
+set_frame-requires g c = c.requires.slots 2 (lit< tt) (deepest_bounds c.args.frame c.args.n).0
 
 pub returns : goal.returns
 returns g c =

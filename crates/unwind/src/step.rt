@@ -112,14 +112,13 @@ fn past(
 // A frame's record, whatever the stack is; none where the walk ends. In order: pc 0 ends; 1,024 frames given, 29; then lookup in the
 // section.
 fn locate(
-    section: &[u8],
-    section_base: usize,
+    memory: &Memory<'_>,
     arch: u8,
     number: usize,
     interrupted: bool,
     pc: usize,
 ) -> Result<Option<Record>, Failure>
-    ensures { Locates section.now section_base arch number interrupted pc result }
+    ensures { Locates memory.now.section.now memory.now.section_base arch number interrupted pc result }
 {
     if pc == 0 {
         return Ok(None);
@@ -127,7 +126,12 @@ fn locate(
     if MAX_FRAMES <= number {
         return Err(Failure::TooManyFrames);
     }
-    match lookup_part(section, section_base, looked_up(interrupted, pc), arch)? {
+    match lookup_part(
+        memory.section,
+        memory.section_base,
+        looked_up(interrupted, pc),
+        arch,
+    )? {
         Some(found) => Ok(Some(found.function)),
         None => Ok(None),
     }
@@ -226,14 +230,7 @@ pub fn meet(
     ensures { MeetsAny rows arch (lent_by memory.now) (frame_with number interrupted file.old) file.new result }
 {
     let pc = file[PC_COLUMN];
-    match locate(
-        memory.section,
-        memory.section_base,
-        arch,
-        number,
-        interrupted,
-        pc,
-    )? {
+    match locate(memory, arch, number, interrupted, pc)? {
         Some(record) => {
             let met = meet_at(memory, arch, number, interrupted, rows, record, pc, file)?;
             Ok(Some(met))

@@ -4,6 +4,7 @@ pub mod Halving
 pub mod Held
 pub mod Rows2
 pub mod Short
+pub mod Left
 pub mod Actions
 pub mod Rising
 pub mod Prefix

@@ -14,32 +14,37 @@ use Rattle.rows.proofs.Held.{word_more}
 use Rattle.rows.proofs.Rows2.{row-whole}
 
 -- a byte of the section
-module _ (section : List ℕ) (base limit : ℕ) (inside : limit ≤ base + length section) where
-  load_one : (pos : ℕ) → base ≤ pos → pos < limit → Answer (get_or section (pos - base) 0) ≡ load (alone section base) 1 pos
+module _ (section : List ℕ) (base end : ℕ) (inside : end ≤ length section) where
+  load_one : (k : ℕ) → k < end → Answer (get_or section k 0) ≡ load (alone section base) 1 (base + k)
   unfolding load bytes_at
-  load_one pos l h =
-      rw (holds_when base (length section) pos 1 l (omega arith))
-      (ap Answer (omega (arith, word_more section (pos - base) (pos - base + 1) 0 refl (omega arith))))
+  load_one k h =
+      rw (holds_when base (length section) (base + k) 1 (omega arith) (omega arith))
+      (ap Answer (omega (arith, word_more section (base + k - base) (base + k - base + 1) 0 refl (omega arith), here)))
+    where
+      here : get_or section (base + k - base) 0 ≡ get_or section k 0
+      here = ap (λ (j : ℕ). get_or section j 0) (omega arith)
 
-  pub byte_in : (pos v : ℕ) → base ≤ pos → pos < limit → v ≡ get_or section (pos - base) 0 → read_byte (alone section base) limit pos ≡ Answer v
-  byte_in pos v l h e = sym (byte-loaded (alone section base) limit pos h (Answer v) (ap Answer e ∙ load_one pos l h))
+  pub byte_in : (k pos v : ℕ) → k < end → pos ≡ base + k → v ≡ get_or section k 0 → read_byte (alone section base) (base + end) pos ≡ Answer v
+  byte_in k pos v h p e =
+      rw p
+      (sym (byte-loaded (alone section base) (base + end) (base + k) (omega arith) (Answer v) (ap Answer e ∙ load_one k h)))
 
 module _ (m : Memory) (limit : ℕ) where
-  -- numbers of one, two and three bytes
-  module _ (pos a : ℕ) (p : read_byte m limit pos ≡ Answer a) where
-    pub one : a < 128 → Answer (record { value = a; next = pos + 1 }) ≡ uleb m limit pos
+  -- numbers of one, two and three bytes, and the position after each
+  module _ (pos next a : ℕ) (p : read_byte m limit pos ≡ Answer a) where
+    pub one : a < 128 → next ≡ pos + 1 → Answer (record { value = a; next = next }) ≡ uleb m limit pos
     unfolding read_number
-    one h = simp (p, lt-ltb a 128 h, lt-ltb a (2 ^ 32) (omega arith))
+    one h e = simp (p, lt-ltb a 128 h, lt-ltb a (2 ^ 32) (omega arith), e)
 
     module _ (more : 128 ≤ a) (small : a < 256) (b : ℕ) (q : read_byte m limit (pos + 1) ≡ Answer b) where
-      pub two : b < 128 → Answer (record { value = a - 128 + 128 * b; next = pos + 1 + 1 }) ≡ uleb m limit pos
+      pub two : b < 128 → next ≡ pos + 1 + 1 → Answer (record { value = a - 128 + 128 * b; next = next }) ≡ uleb m limit pos
       unfolding read_number
-      two h = simp (p, le-ltb a 128 more, q, lt-ltb b 128 h, lt-ltb (a - 128 + 128 * b) (2 ^ 32) (omega arith))
+      two h e = simp (p, le-ltb a 128 more, q, lt-ltb b 128 h, lt-ltb (a - 128 + 128 * b) (2 ^ 32) (omega arith), e)
 
-      pub three : 128 ≤ b → b < 256 → (d : ℕ) → read_byte m limit (pos + 1 + 1) ≡ Answer d → d < 128 →
-          Answer (record { value = a - 128 + 128 * (b - 128 + 128 * d); next = pos + 1 + 1 + 1 }) ≡ uleb m limit pos
+      pub three : 128 ≤ b → b < 256 → (d : ℕ) → read_byte m limit (pos + 1 + 1) ≡ Answer d → d < 128 → next ≡ pos + 1 + 1 + 1 →
+          Answer (record { value = a - 128 + 128 * (b - 128 + 128 * d); next = next }) ≡ uleb m limit pos
       unfolding read_number
-      three more' small' d r h =
+      three more' small' d r h e =
           simp (
             p,
             le-ltb a 128 more,
@@ -48,6 +53,7 @@ module _ (m : Memory) (limit : ℕ) where
             r,
             lt-ltb d 128 h,
             lt-ltb (a - 128 + 128 * (b - 128 + 128 * d)) (2 ^ 32) (omega arith),
+            e,
           )
 
   -- a row whose two numbers are read: it is the one of ret; it comes before it
@@ -56,17 +62,17 @@ module _ (m : Memory) (limit : ℕ) where
     counted : (o : Outcome Found) → o ≡ rows_from (suc left) m limit pos at ret → o ≡ rows_from n m limit pos at ret
     counted o r = r ∙ ap (λ (k : ℕ). rows_from k m limit pos at ret) (sym e)
 
-    module _ (within : at + delta.value ≤ ret) where
-      pub row_here : at + delta.value ≡ ret → (o : Outcome Found) → o ≡ matched m limit left word.next word.value →
-          o ≡ rows_from n m limit pos at ret
-      row_here is o r =
-          counted o
-          (row-whole m limit left pos at ret delta p word q o
-          (simp (ne_eqb delta.value 0 some, le-ltb ret (at + delta.value) within, eq-eqb (at + delta.value) ret is) r))
+    pub row_here : at + delta.value ≡ ret → matched m limit left word.next word.value ≡ rows_from n m limit pos at ret
+    row_here is =
+        let o = matched m limit left word.next word.value in
+        counted o
+        (row-whole m limit left pos at ret delta p word q o
+        (simp (ne_eqb delta.value 0 some, le-ltb ret (at + delta.value) (omega arith), eq-eqb (at + delta.value) ret is)))
 
-      pub row_on : (at + delta.value ≡ ret → ⊥) →
-          rows_from left m limit word.next (at + delta.value) ret ≡ rows_from n m limit pos at ret
-      row_on other =
-          counted (rows_from left m limit word.next (at + delta.value) ret)
-          (row-whole m limit left pos at ret delta p word q (rows_from left m limit word.next (at + delta.value) ret)
-          (simp (ne_eqb delta.value 0 some, le-ltb ret (at + delta.value) within, ne_eqb (at + delta.value) ret other)))
+    pub row_on : at + delta.value ≤ ret → (at + delta.value ≡ ret → ⊥) →
+        rows_from left m limit word.next (at + delta.value) ret ≡ rows_from n m limit pos at ret
+    row_on within other =
+        let rest = rows_from left m limit word.next (at + delta.value) ret in
+        counted rest
+        (row-whole m limit left pos at ret delta p word q rest
+        (simp (ne_eqb delta.value 0 some, le-ltb ret (at + delta.value) within, ne_eqb (at + delta.value) ret other)))

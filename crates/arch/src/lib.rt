@@ -32,12 +32,12 @@ pub const COLUMNS: usize = 41;
 pub const PC_COLUMN: usize = 40;
 
 // The DWARF numbers that the bits of a version 1 mask name on aarch64, from bit 0.
-static SAVED_AARCH64: [u16; 18] = [
+const SAVED_AARCH64: [u16; 18] = [
     19, 20, 21, 22, 23, 24, 25, 26, 27, 28, 72, 73, 74, 75, 76, 77, 78, 79,
 ];
 
 // The DWARF numbers that the bits of a version 1 mask name on x86-64, from bit 0.
-static SAVED_X86_64: [u16; 5] = [3, 12, 13, 14, 15];
+const SAVED_X86_64: [u16; 5] = [3, 12, 13, 14, 15];
 
 // The numbers of one architecture.
 #[derive(Clone, Copy)]

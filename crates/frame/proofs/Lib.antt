@@ -6,6 +6,7 @@ pub mod Turn
 pub mod Applied
 pub mod Named
 pub mod SavedTurn
+pub mod SavedLeft
 pub mod Cfa
 pub mod Stepped
 pub mod Opened

@@ -5,10 +5,12 @@ use mathlib.Core.List.{List, [], ◌∷◌}
 use Prim.Native.Nat.{ℕ, zero, suc, ◌+◌, ◌-◌, ◌%◌, ◌/◌, ◌^◌, ◌≤◌, ◌<◌}
 use native.Mathlib.Nat.{pow-suc}
 use native.Mathlib.Omega.{arith}
+use native.Mathlib.Numerals.{add-one}
 use lib.Dec.{eqb, lit≤}
 use lib.Count.{ones, ones_in, ones_step, count_trailing_zeros, under}
-use lib.ListN.{length, get_or}
-use borrow.Author.Tests.{eqb-true, eqb-false}
+use lib.ListN.{length, get_or, drop}
+use lib.Seq.{drop-cons}
+use borrow.Author.Tests.{eqb-true, eqb-false, eq-eqb, ne_eqb}
 use Rattle.arch.specs.Arch.{Arch, numbers}
 use Rattle.arch.proofs.Arch.{of_both}
 use Rattle.frame.specs.Frame.{named}
@@ -16,6 +18,18 @@ use Rattle.frame.specs.Frame.{named}
 -- a SAVED table has at most 18 registers
 pub table-short : (n : ℕ) → length (numbers n).saved ≤ 18
 table-short = of_both (λ (a : Arch). length a.saved ≤ 18) (lit≤ tt) (lit≤ tt)
+
+-- a bit that is set names its register
+pub named_set :
+    (m : ℕ) (table : List ℕ) (bit : ℕ) → bit < length table → m % 2 ≡ 1 →
+    named m (drop bit table) ≡ get_or table bit 0 ∷ named (m / 2) (drop (bit + 1) table)
+named_set m table bit h e = rw (add-one, drop-cons table bit 0 h, eq-eqb (m % 2) 1 e)
+
+-- one that is not names none
+pub named-clear :
+    (m : ℕ) (table : List ℕ) (bit : ℕ) → bit < length table → (m % 2 ≡ 1 → ⊥) →
+    named m (drop bit table) ≡ named (m / 2) (drop (bit + 1) table)
+named-clear m table bit h e = rw (add-one, drop-cons table bit 0 h, ne_eqb (m % 2) 1 e)
 
 -- of the bits that name registers the lowest names the first; the others are left without it
 pub record First (m : ℕ) (table : List ℕ) (bit : ℕ) : Type 0 where

@@ -7,7 +7,7 @@ use Rattle.frame.proofs.InStack.{slot_bounds}
 use Rattle.frame.proofs.Saves.{saves-few}
 use Rattle.frame.proofs.Partly.{partly_done, partly_exit}
 use Rattle.frame.proofs.Slot.{cell_at, cell_outside}
-use Rattle.frame.proofs.SavedTurn.{saved-begin, saved_over, saved-next, saved-set, saved_refused}
+use Rattle.frame.proofs.SavedLeft.{saved-begin, saved_over, saved-next, saved-set, saved_refused}
 use Rattle.frame.proofs.step.restore_named.Goals as goal
 
 pub loop-k-init : goal.loop-k-init

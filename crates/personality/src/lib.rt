@@ -75,6 +75,13 @@ fn row_after(
     handler2_at(memory, ran.after, record.limit, ret)
 }
 
+// The return offset of a pc in a function, as row tables have it: modulo 2^32; 0 below its start.
+pub fn return_offset(record: Record, pc: usize) -> u32
+    ensures { result ≡ Spec.offset_in «record» pc }
+{
+    (pc.saturating_sub(record.start) % 0x1_0000_0000) as u32
+}
+
 // The row of a frame.
 #[tactic(auto, unfolding(crate::specs::Reason::row_of, crate::specs::Reason::rowless))]
 pub fn row_of(
@@ -89,7 +96,7 @@ pub fn row_of(
     if rowless(interrupted, record, pc) {
         return Ok(None);
     }
-    let ret = ((pc - record.start) % 0x1_0000_0000) as u32;
+    let ret = return_offset(record, pc);
     if record.version == VERSION2 {
         return row_after(memory, arch, record, ret);
     }

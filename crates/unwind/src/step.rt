@@ -19,7 +19,7 @@ use frame::apply::apply_into;
 use frame::step::step_into;
 use lookup::{Record, VERSION2, lookup_part};
 use mem::Memory;
-use personality::rowless;
+use personality::{return_offset, rowless};
 use program::{run_into, run_through};
 use rows::Row;
 use rows::handler::handler_at;
@@ -174,7 +174,7 @@ fn meet_through(
     let before = file[k];
     apply_into(memory, arch, &state, file)?;
     advancing(number, before, file[k])?;
-    let ret = ((pc - record.start) % 0x1_0000_0000) as u32;
+    let ret = return_offset(record, pc);
     let row = handler2_at(memory, through.end?, record.limit, ret)?;
     Ok(met_row(record, row))
 }
@@ -213,7 +213,7 @@ fn meet_at(
     if !row_asked {
         return Ok(Met { record, row: None });
     }
-    let row = handler_at(memory, record.handlers, (pc - record.start) % 0x1_0000_0000)?;
+    let row = handler_at(memory, record.handlers, return_offset(record, pc) as usize)?;
     Ok(met_row(record, row))
 }
 

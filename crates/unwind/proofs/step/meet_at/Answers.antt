@@ -3,7 +3,6 @@ use Rattle.std.proofs.Common.{◌≡◌, ℕ, true, false, ap, ◌∙◌, sym}
 use Rattle.failure.proofs.Outcome.{exit_as}
 use Rattle.model.specs.FrameStep.{looked_up}
 use Rattle.personality.specs.Reason.{rowless}
-use Rattle.personality.proofs.Reasons.{row-above}
 use Rattle.unwind.proofs.Walks.{record_bounds}
 use Rattle.unwind.proofs.Meeting.{asked-rows, not_both, seen-asked, meets_refused, meets_unasked, meets_row, meets_rowless_refused, row_1}
 use Rattle.unwind.proofs.step.meet_at.Goals as goal
@@ -46,11 +45,6 @@ pub returns-then-not-row_asked : goal.returns-then-not-row_asked
 returns-then-not-row_asked c =
     meets_unasked _ _ _ _ _ c.requires.0 c.requires.1 _ _ c.in_ok-past.ensures (sym c.asked-row_asked.ensures ∙ c.if-not-row_asked.true)
 
-pub overflow_sub-pc : goal.overflow_sub-pc
-overflow_sub-pc c =
-    let may = wanted (goal.at.overflow_sub-pc c).After-asked-row_asked c.if-not-row_asked.false in
-    row-above _ _ _ may.1
-
 pub returns-in_err-row : goal.returns-in_err-row
 returns-in_err-row c =
     let at = goal.at.returns-in_err-row c in
@@ -58,7 +52,7 @@ returns-in_err-row c =
     let may = wanted at.After-asked-row_asked e in
     exit_as _ _ _ c.from_residual-in_err-row.ensures.1
     ∙ meets_rowless_refused _ _ _ _ _ c.requires.0 c.requires.1 _ _ c.in_ok-past.ensures may.0 _
-    (row_1 _ _ _ _ _ may.1 (other at.After-past e) _ c.in_err-row.ensures)
+    (row_1 _ _ _ _ _ may.1 (other at.After-past e) _ (rw c.return_offset.ensures at c.in_err-row.ensures))
 
 pub returns : goal.returns
 returns c =
@@ -66,5 +60,5 @@ returns c =
     let e = c.if-not-row_asked.false in
     let may = wanted at.After-asked-row_asked e in
     meets_row _ _ _ _ _ c.requires.0 c.requires.1 _ _ c.in_ok-past.ensures may.0 _
-    (row_1 _ _ _ _ _ may.1 (other at.After-past e) _ c.in_ok-row.ensures)
+    (row_1 _ _ _ _ _ may.1 (other at.After-past e) _ (rw c.return_offset.ensures at c.in_ok-row.ensures))
     _ c.met_row.ensures

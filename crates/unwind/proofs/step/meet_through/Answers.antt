@@ -11,7 +11,6 @@ use Rattle.model.specs.FrameStep as Walk
 use Rattle.model.specs.FrameStep.{looked_up, caller_of, caller_file, past}
 use Rattle.unwind.specs.Answers.{frame_with}
 use Rattle.unwind.specs.Turns.{file_told}
-use Rattle.personality.proofs.Reasons.{row-above}
 use Rattle.unwind.proofs.Walks.{record_bounds, in_place_told, caller_2, past_refused, past_tested}
 use Rattle.unwind.proofs.Meeting.{meets_refused, meets_row, meets_rowless_refused, ran-applied, ran_refused, end_row, end_refused, row_2}
 use Rattle.unwind.proofs.step.meet_through.Goals as goal
@@ -68,9 +67,6 @@ returns-in_err-advancing c =
     ∙ meets_refused _ _ _ _ _ c.requires.0 c.requires.1 _ _
     (tested (goal.at.returns-in_err-advancing c).After-advancing c.in_ok-through.was _ c.in_err-advancing.was)
 
-pub overflow_sub-ret : goal.overflow_sub-ret
-overflow_sub-ret c = row-above _ _ _ c.requires.2
-
 pub returns-in_err-through-2 : goal.returns-in_err-through-2
 returns-in_err-through-2 c =
     let passed = tested (goal.at.returns-in_err-through-2 c).After-advancing c.in_ok-through.was _ c.in_ok-advancing.was in
@@ -85,12 +81,12 @@ returns-in_err-row c =
     exit_as _ _ _ c.from_residual-in_err-row.ensures.1
     ∙ meets_rowless_refused _ _ _ _ _ c.requires.0 c.requires.1 _ _ passed refl _
     (row_2 _ _ _ _ _ c.requires.2 c.requires.3 _
-    (c.in_err-row.ensures ∙ end_row _ _ _ _ _ refl _ (ap (λ (x : Runs). x.end) c.run_through-through.ensures) _ (sym (ap outcome c.in_ok-through-2.was))))
+    ((rw c.return_offset-ret.ensures at c.in_err-row.ensures) ∙ end_row _ _ _ _ _ refl _ (ap (λ (x : Runs). x.end) c.run_through-through.ensures) _ (sym (ap outcome c.in_ok-through-2.was))))
 
 pub returns : goal.returns
 returns c =
     let passed = tested (goal.at.returns c).After-advancing c.in_ok-through.was _ c.in_ok-advancing.was in
     meets_row _ _ _ _ _ c.requires.0 c.requires.1 _ _ passed refl _
     (row_2 _ _ _ _ _ c.requires.2 c.requires.3 _
-    (c.in_ok-row.ensures ∙ end_row _ _ _ _ _ refl _ (ap (λ (x : Runs). x.end) c.run_through-through.ensures) _ (sym (ap outcome c.in_ok-through-2.was))))
+    ((rw c.return_offset-ret.ensures at c.in_ok-row.ensures) ∙ end_row _ _ _ _ _ refl _ (ap (λ (x : Runs). x.end) c.run_through-through.ensures) _ (sym (ap outcome c.in_ok-through-2.was))))
     _ c.met_row.ensures

@@ -1,6 +1,6 @@
 // The reasons of the built-in personality: ps-unwind's `personality`, by value.
-// `personality` refuses with 28 first. `rowless` and `row_of` are for the crates above, which have tested what is lent and the
-// architecture: there any other number stands for 2.
+// `personality` refuses with 28 first. `rowless`, `return_offset` and `row_of` are for the crates above, which have tested what is lent and
+// the architecture: there any other number stands for 2.
 #![tactic(auto)]
 
 ghost use Rattle.std.specs.Prelude.{◌≡◌, Ok};

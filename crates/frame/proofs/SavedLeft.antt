@@ -19,26 +19,7 @@ use Rattle.frame.specs.Near.{Saves}
 use Rattle.frame.proofs.Cell.{cell_of}
 use Rattle.frame.proofs.Pairs.{restore-set, restore_refused}
 use Rattle.frame.proofs.Named.{First, named_first}
-
--- the registers that are left after k of them, with their slots
-abbrev pub slots_from : ℕ → ℕ → List ℕ → List Pair
-slots_from frame k regs =
-    if reversed frame then falling (first_slot frame) regs else rising (first_slot frame + k) regs
-
--- the first of those that are left, and the others
-slots_next :
-    (frame k n reg : ℕ) (regs : List ℕ) → k + length (reg ∷ regs) ≡ n →
-    slots_from frame k (reg ∷ regs) ≡ record { reg = reg; slot = slot_of frame n k } ∷ slots_from frame (k + 1) regs
-slots_next frame k n reg regs e = go (reversed frame) refl
-  where
-    go : (t : Bool) → reversed frame ≡ t →
-        slots_from frame k (reg ∷ regs) ≡ record { reg = reg; slot = slot_of frame n k } ∷ slots_from frame (k + 1) regs
-    go true b =
-        let s : length regs ≡ n - 1 - k = omega arith in
-        rw (b, s)
-    go false b =
-        let s : first_slot frame + k + 1 ≡ first_slot frame + (k + 1) = omega arith in
-        rw (b, s)
+use Rattle.frame.proofs.SavedTurn.{slots_from, slots_next}
 
 -- after k of the n registers: they are set, and those that the rest of the mask names give the whole outcome
 pub record SavedLeft (a : Arch) (m : Memory) (at frame n : ℕ) (whole : Outcome (List ℕ)) (file : List ℕ) (rest k : ℕ) : Type 0 where

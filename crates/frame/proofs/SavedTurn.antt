@@ -29,7 +29,7 @@ slots_from frame k regs =
     if reversed frame then falling (first_slot frame) regs else rising (first_slot frame + k) regs
 
 -- the first of those that are left, and the others
-slots_next :
+pub slots_next :
     (frame k n reg : ℕ) (regs : List ℕ) → k + length (reg ∷ regs) ≡ n →
     slots_from frame k (reg ∷ regs) ≡ record { reg = reg; slot = slot_of frame n k } ∷ slots_from frame (k + 1) regs
 slots_next frame k n reg regs e = go (reversed frame) refl

@@ -1,19 +1,23 @@
 -- Laws of `Near`, `slot_in` and `deepest`. Assumes nothing.
-use mathlib.Core.Path.{◌≡◌, refl, ap, subst}
+use mathlib.Core.Path.{◌≡◌, refl, sym, ◌∙◌, ap, subst}
 use mathlib.Core.Bool.{Bool, true, false, and-false}
 use mathlib.Core.List.{List}
 use mathlib.Core.Logic.{⊎_elim}
-use Rattle.std.specs.Prelude.{if◌then◌else◌}
+use Rattle.std.specs.Prelude.{Result, Ok, Err, if◌then◌else◌}
+use Rattle.std.specs.Result.{result_unwrap_or}
 use Prim.Native.Nat.{ℕ, ◌+◌, ◌-◌, ◌*◌, ◌^◌, ◌≤◌, ◌<◌, max}
 use native.Mathlib.Omega.{arith}
 use lib.Dec.{ltb}
-use lib.ListN.{length, get_or, take, drop}
-use borrow.Author.Tests.{lt-leb, ltb-true, ltb-false}
-use Rattle.failure.specs.Outcome.{Answer}
+use lib.ListN.{length, get_or, take, drop, length-take, length-drop}
+use borrow.Author.Tests.{lt-leb, eq-eqb, ltb-true, ltb-false}
+use Rattle.failure.specs.Failure.{number}
+use Rattle.failure.specs.Outcome.{Answer, outcome}
+use Rattle.failure.specs.declared.Failure.{Failure}
+use Rattle.failure.proofs.Outcome.{answer-refused}
 use Rattle.arch.specs.Arch.{Arch}
 use Rattle.mem.specs.Place.{holds, bytes_at}
 use Rattle.mem.specs.Given.{lent_by}
-use Rattle.mem.specs.Word.{little_endian, load}
+use Rattle.mem.specs.Word.{little_endian, load, word_in}
 use Rattle.mem.specs.Wrapping.{difference}
 use Rattle.mem.specs.declared.Memory.{Memory}
 use Rattle.mem.proofs.Place.{holds_when}
@@ -21,6 +25,27 @@ use Rattle.mem.proofs.Tests.{lt_or_le}
 use Rattle.frame.specs.Apply.{load_slot}
 use Rattle.frame.specs.Frame.{first_slot, reversed, slot_of}
 use Rattle.frame.specs.Near.{Near, slot_in, Usable, Within, deepest}
+
+-- eight bytes of the stack are read whole
+pub part_read :
+    (stack : List ℕ) (k : ℕ) (r : Result ℕ Failure) → outcome r ≡ word_in 8 (take (k + 8 - k) (drop k stack)) → k + 8 ≤ length stack →
+    result_unwrap_or r 0 ≡ little_endian (take 8 (drop k stack))
+unfolding word_in
+part_read stack k r p fits = value r whole
+  where
+    n : k + 8 - k ≡ 8
+    n = omega arith
+
+    l : length (take 8 (drop k stack)) ≡ 8
+    l = simp (length-take, length-drop) (omega arith)
+
+    whole : outcome r ≡ Answer (little_endian (take 8 (drop k stack)))
+    whole = p ∙ rw (n, eq-eqb (length (take 8 (drop k stack))) 8 l)
+
+    value : (r : Result ℕ Failure) → outcome r ≡ Answer (little_endian (take 8 (drop k stack))) →
+        result_unwrap_or r 0 ≡ little_endian (take 8 (drop k stack))
+    value (Ok v) e = cc
+    value (Err f) e = answer-refused _ (number f) (sym e)
 
 -- a range of addresses does not hold bytes at or past its end
 past_end : (base size a : ℕ) → base + size ≤ a → holds base size a 8 ≡ false

@@ -8,6 +8,7 @@ ghost use Rattle.frame.specs.Apply as Apply;
 ghost use Rattle.frame.specs.Near.{Near, slot_in};
 
 use failure::Failure;
+use mem::load::u64_in;
 use mem::{Memory, wrapping};
 
 // How the slots of one frame are read: of what is lent, below which CFA, and which of them may be asked for.
@@ -114,5 +115,6 @@ fn slot_in(stack: &[u8], top: usize, slot: usize) -> usize
 {
     // the slot's bytes in the stack, where the CFA is at top
     let k = top - 8 * slot;
-    usize::from_le_bytes(<[u8; 8]>::try_from(&stack[k..k + 8]).unwrap())
+    // the part has 8 bytes, so it is not refused
+    u64_in(&stack[k..k + 8]).unwrap_or(0)
 }

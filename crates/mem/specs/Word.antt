@@ -1,6 +1,7 @@
 -- Little-endian words (document 01: "Integers in memory are little-endian").
-use Rattle.std.specs.Prelude.{ℕ, ◌+◌, ◌*◌, List, [], ◌∷◌, take, drop}
-use Rattle.failure.specs.Outcome.{Outcome, Answer, ◌>>=◌}
+use Rattle.std.specs.Prelude.{ℕ, ◌+◌, ◌*◌, List, [], ◌∷◌, length, take, drop, ◌==◌, if◌then◌else◌}
+use Rattle.failure.specs.Outcome.{Outcome, Refused, Answer, ◌>>=◌}
+use Rattle.failure.specs.Failure.{OutsideMemory}
 use Rattle.mem.specs.Memory.{Memory}
 use Rattle.mem.specs.Place.{bytes_at}
 
@@ -18,3 +19,7 @@ unfoldable pub load : Memory → ℕ → ℕ → Outcome ℕ
 load m n a = do
   bs ← bytes_at m a n
   Answer (little_endian bs)
+
+-- the number in n bytes; 27 for any other count of them
+unfoldable pub word_in : ℕ → List ℕ → Outcome ℕ
+word_in n bs = if length bs == n then Answer (little_endian bs) else Refused OutsideMemory

@@ -1,11 +1,11 @@
 // Bytes and little-endian words at an address. Nothing here asks that what is lent is accepted: whoever lends it asks that once.
-ghost use Rattle.std.specs.Prelude.{◌≡◌, ◌<◌};
+ghost use Rattle.std.specs.Prelude.{◌≡◌, ◌^◌, ◌<◌, length};
 ghost use Rattle.failure.specs.Outcome.{outcome};
 ghost use Rattle.mem.specs.Memory.{lent};
 ghost use Rattle.mem.specs.Given.{lent_by};
 ghost use Rattle.mem.specs.Place.{holds, placed, place_of, bytes_at};
 ghost use Rattle.mem.specs.Part.{PartOf};
-ghost use Rattle.mem.specs.Word.{load};
+ghost use Rattle.mem.specs.Word.{little_endian, load, word_in};
 
 use crate::Memory;
 use failure::Failure;
@@ -31,6 +31,34 @@ fn holds(base: usize, size: usize, a: usize, n: usize) -> bool
         return false;
     }
     n <= size - k
+}
+
+// The number in four bytes.
+fn le4(b: &[u8]) -> usize
+    requires { length b.now ≡ 4 }
+    ensures { (result ≡ little_endian b.now) × (result < 256 ^ 4) }
+{
+    u32::from_le_bytes(<[u8; 4]>::try_from(b).unwrap()) as usize
+}
+
+// The number in eight bytes, from two 32-bit words (document 02 (b)).
+fn le8(b: &[u8]) -> usize
+    requires { length b.now ≡ 8 }
+    ensures { (result ≡ little_endian b.now) × (result < 256 ^ 8) }
+{
+    // the lower word comes first; the other counts 2^32
+    le4(&b[0..4]) + 0x1_0000_0000 * le4(&b[4..8])
+}
+
+// The u64 in eight bytes; 27 for any other count of them. Every slot is put together here.
+#[tactic(auto, unfolding(crate::specs::Word::word_in))]
+pub fn u64_in(b: &[u8]) -> Result<usize, Failure>
+    ensures { outcome result ≡ word_in 8 b.now }
+{
+    if b.len() == 8 {
+        return Ok(le8(b));
+    }
+    Err(Failure::OutsideMemory)
 }
 
 impl<'a> Memory<'a> {
@@ -69,7 +97,7 @@ impl<'a> Memory<'a> {
         }
     }
 
-    // The u8 at address a. It and the two after it are three functions: `from_le_bytes` is each type's own, and no trait's.
+    // The u8 at address a. It and the next are two functions: `from_le_bytes` is each type's own, and no trait's.
     pub fn load_u8(&self, a: usize) -> Result<u8, Failure>
         ensures { outcome result ≡ load (lent_by self.now).regions 1 a }
     {
@@ -87,6 +115,6 @@ impl<'a> Memory<'a> {
     pub fn load_u64(&self, a: usize) -> Result<usize, Failure>
         ensures { outcome result ≡ load (lent_by self.now).regions 8 a }
     {
-        Ok(usize::from_le_bytes(self.array_at(a)?))
+        u64_in(self.bytes_at(a, 8))
     }
 }

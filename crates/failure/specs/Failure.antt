@@ -1,6 +1,6 @@
 -- The numbers with which a call is turned back, and who causes each (document 01, "Turned back, by who causes it", and document 02,
 -- request by request). The names are ps-unwind's; it has none from 27 on.
-use Rattle.std.specs.Prelude.{Bool, false, ◌||◌, List, [], ◌∷◌, ℕ, eqb, if◌then◌else◌}
+use Rattle.std.specs.Prelude.{Bool, false, ◌||◌, List, [], ◌∷◌, ℕ, codes, eqb, if◌then◌else◌}
 use Rattle.failure.specs.declared.Failure.{Failure}
 use Rattle.failure.specs.declared.Failure.TheVariants as failure
 
@@ -91,6 +91,26 @@ number failure.TooManyFrames = TooManyFrames
 number failure.EkoTruncated = EkoTruncated
 number failure.BadUleb = BadUleb
 number failure.TooManySaved = TooManySaved
+
+-- the name of each case, as it prints
+abbrev pub name : Failure → List ℕ
+name failure.RememberStackOverflow = codes "RememberStackOverflow"
+name failure.UnknownRegister = codes "UnknownRegister"
+name failure.BadCfaRule = codes "BadCfaRule"
+name failure.BadEkoHeader = codes "BadEkoHeader"
+name failure.BadEkoRecord = codes "BadEkoRecord"
+name failure.EkoUnsorted = codes "EkoUnsorted"
+name failure.StackNotAdvancing = codes "StackNotAdvancing"
+name failure.HandlerFrameMissed = codes "HandlerFrameMissed"
+name failure.Misaligned = codes "Misaligned"
+name failure.EkoAmbiguousCallSite = codes "EkoAmbiguousCallSite"
+name failure.EkoAsyncFrame = codes "EkoAsyncFrame"
+name failure.OutsideMemory = codes "OutsideMemory"
+name failure.BadOpening = codes "BadOpening"
+name failure.TooManyFrames = codes "TooManyFrames"
+name failure.EkoTruncated = codes "EkoTruncated"
+name failure.BadUleb = codes "BadUleb"
+name failure.TooManySaved = codes "TooManySaved"
 
 -- n is one of the numbers
 abbrev pub one_of : ℕ → List ℕ → Bool

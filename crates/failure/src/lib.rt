@@ -1,9 +1,9 @@
 // Why a call is turned back (document 01, "Turned back, by who causes it", and document 02, request by request). The names are
-// ps-unwind's; it has none from 27 on. specs/Failure.antt has the number of each, and who causes it.
+// ps-unwind's; it has none from 27 on. specs/Failure.antt has the number and the name of each, and who causes it.
 #![tactic(auto)]
 
-ghost use Rattle.std.specs.Prelude.{◌≡◌};
-ghost use Rattle.failure.specs.Failure.{number};
+ghost use Rattle.std.specs.Prelude.{◌≡◌, Some};
+ghost use Rattle.failure.specs.Failure.{name, number};
 
 use std::error::Error;
 use std::fmt;
@@ -55,10 +55,32 @@ impl Failure {
     }
 }
 
-// The name, as a derived `Debug` writes it.
+// The name, whatever the options of a format.
 impl fmt::Display for Failure {
+    ghost output = { λ f. Some (name f) };
+
+    ghost styled_output = { λ f options. Some (name f) };
+
     fn fmt<W: fmt::Write>(&self, f: &mut fmt::Formatter<W>) -> fmt::Result {
-        write!(f, "{self:?}")
+        match self {
+            Failure::RememberStackOverflow => f.write_str("RememberStackOverflow"),
+            Failure::UnknownRegister => f.write_str("UnknownRegister"),
+            Failure::BadCfaRule => f.write_str("BadCfaRule"),
+            Failure::BadEkoHeader => f.write_str("BadEkoHeader"),
+            Failure::BadEkoRecord => f.write_str("BadEkoRecord"),
+            Failure::EkoUnsorted => f.write_str("EkoUnsorted"),
+            Failure::StackNotAdvancing => f.write_str("StackNotAdvancing"),
+            Failure::HandlerFrameMissed => f.write_str("HandlerFrameMissed"),
+            Failure::Misaligned => f.write_str("Misaligned"),
+            Failure::EkoAmbiguousCallSite => f.write_str("EkoAmbiguousCallSite"),
+            Failure::EkoAsyncFrame => f.write_str("EkoAsyncFrame"),
+            Failure::OutsideMemory => f.write_str("OutsideMemory"),
+            Failure::BadOpening => f.write_str("BadOpening"),
+            Failure::TooManyFrames => f.write_str("TooManyFrames"),
+            Failure::EkoTruncated => f.write_str("EkoTruncated"),
+            Failure::BadUleb => f.write_str("BadUleb"),
+            Failure::TooManySaved => f.write_str("TooManySaved"),
+        }
     }
 }
 

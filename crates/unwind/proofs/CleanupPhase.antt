@@ -1,7 +1,7 @@
 -- Laws of the cleanup phase, turn by turn, and of a call of resume. Assumes nothing.
 use Rattle.std.specs.Prelude.{if◌then◌else◌, Result, Ok, Err, Option, Some, None}
 use mathlib.Core.Path.{◌≡◌, refl, sym, ◌∙◌, ap, subst}
-use mathlib.Core.Bool.{Bool, true, false, ◌&&◌}
+use mathlib.Core.Bool.{Bool, true, false}
 use mathlib.Core.List.{List}
 use Prim.Native.Nat.{ℕ, zero, suc, ◌+◌, ◌≤◌, ◌<◌}
 use native.Mathlib.Omega.{arith}
@@ -31,7 +31,7 @@ use Rattle.model.specs.Cleanup as Cleanup
 use Rattle.model.specs.Cleanup.{Choice, Cleaned, install_pad, by_row, clean_at, clean_from, clean}
 use Rattle.model.specs.Unwinding.{frame_of, choice_of, going_on, resume}
 use Rattle.unwind.specs.Answers.{accepts, frame_with, Handed, unmoved, resumed_by}
-use Rattle.unwind.specs.Turns.{Seen, row_as, seen_any, MeetsAny, clean_row, clean_past, clean_by, install_at, clean_or}
+use Rattle.unwind.specs.Turns.{Seen, row_as, seen_any, MeetsAny, clean_pad, clean_row, clean_past, clean_by, install_at, clean_or}
 use Rattle.unwind.specs.declared.Met.{Met}
 use Rattle.unwind.specs.declared.ResumeAnswer.{ResumeAnswer}
 use Rattle.unwind.specs.declared.ResumeAnswer.TheVariants as answer
@@ -61,13 +61,6 @@ module _ (arch : ℕ) (l : Lent) (exception : ℕ) (c : Choice) (f : Frame) wher
   abbrev same : Bool
   same = eqb (sp (numbers arch) f.file) c.sp
 
-  -- a row's pad and action, as `clean_row` has them
-  abbrev by_pad : ℕ → ℕ → ℕ → Outcome Cleaning
-  by_pad start pad action =
-      if below then
-      (if eqb action 0 then Answer (Install start pad) else if eqb action 1 then Outcome.Refused 22 else Answer Fatal)
-      else (if eqb action 1 && same then Answer (Install start pad) else Outcome.Refused 22)
-
   -- what a frame's row says
   abbrev by_found : (Frame → Outcome Cleaned) → Record → Frame → Found → Outcome Cleaned
   by_found rest r next row = by_row (numbers arch) exception c f r next (rest next) row
@@ -75,13 +68,13 @@ module _ (arch : ℕ) (l : Lent) (exception : ℕ) (c : Choice) (f : Frame) wher
   -- a row, where it is known how the numbers and the action compare
   by_row_lem : (r : Record) (next : Frame) (rest : Outcome Cleaned) (pad action : ℕ) →
       by_row (numbers arch) exception c f r next rest (Row.Pad pad action)
-      ≡ clean_or (numbers arch) exception f next (by_pad r.start pad action) rest
+      ≡ clean_or (numbers arch) exception f next (clean_pad below same r.start pad action) rest
   unfolding install_pad install_at
   by_row_lem r next rest pad action = go below refl (eqb action 0) refl (eqb action 1) refl same refl
     where
       go : (b : Bool) → below ≡ b → (z : Bool) → eqb action 0 ≡ z → (o : Bool) → eqb action 1 ≡ o → (s : Bool) → same ≡ s →
           by_row (numbers arch) exception c f r next rest (Row.Pad pad action)
-          ≡ clean_or (numbers arch) exception f next (by_pad r.start pad action) rest
+          ≡ clean_or (numbers arch) exception f next (clean_pad below same r.start pad action) rest
       go true p true q o v s w = rw (p, q)
       go true p false q true v s w = rw (p, q, v)
       go true p false q false v s w = rw (p, q, v)
@@ -229,8 +222,13 @@ module _ (l : Lent) (arch : ℕ) (u : Unwinding) where
       unfolding clean
       resumed-on h = ap (resumed_by u) (rw (le-ltb u.chosen_number u.number h) at (by_chosen true e))
 
--- a row below the chosen number that is no cleanup and no catch is fatal
-pub below-terminate : (start : ℕ) (row : declared.Row) → (number_of row.action ≡ 0 → ⊥) → (number_of row.action ≡ 1 → ⊥) →
+-- an action below the chosen number that is no cleanup and no catch is fatal
+pub below-terminate : (start pad action : ℕ) → (action ≡ 0 → ⊥) → (action ≡ 1 → ⊥) →
+    Answer Fatal ≡ clean_pad true false start pad action
+below-terminate start pad action o e = rw (ne_eqb action 0 o, ne_eqb action 1 e) refl
+
+-- so is a row with such an action
+pub row-terminate : (start : ℕ) (row : declared.Row) → (number_of row.action ≡ 0 → ⊥) → (number_of row.action ≡ 1 → ⊥) →
     Answer Fatal ≡ clean_row true false start row
 unfolding clean_row
-below-terminate start row o e = rw (ne_eqb (number_of row.action) 0 o, ne_eqb (number_of row.action) 1 e) refl
+row-terminate start row o e = below-terminate start row.pad (number_of row.action) o e

@@ -4,12 +4,12 @@ use mathlib.Core.List.{List}
 use mathlib.Core.Path.{◌≡◌, refl, ◌∙◌, ap}
 use Prim.Native.Nat.{ℕ}
 use Rattle.std.specs.Prelude.{Result, Ok, Err}
-use Rattle.failure.specs.Outcome.{Outcome, Refused, Answer, Beside, outcome}
+use Rattle.failure.specs.Outcome.{Outcome, Refused, Answer, Beside, outcome, map}
 use Rattle.failure.specs.declared.Failure.{Failure}
 use Rattle.mem.specs.Memory.{Lent}
 use Rattle.model.specs.declared.Unwinding.{Unwinding}
 use Rattle.model.specs.FrameStep.{Frame}
-use Rattle.model.specs.Search.{Searched, told_by}
+use Rattle.model.specs.Search.{Searched, Chosen, Stopped, Ended, told_by}
 use Rattle.model.specs.Cleanup as Cleanup
 use Rattle.model.specs.Cleanup.{Cleaned, Install, Fatal, Finished}
 use Rattle.model.specs.Unwinding.{raise, raised, resume, frame_of}
@@ -17,29 +17,34 @@ use Rattle.model.specs.Machine.{arch_of}
 use Rattle.model.specs.Demand.{answer_of}
 use Rattle.model.specs.Call.{after, compared_as, machine_at, Throws, Sweeps, GivesNext}
 use Rattle.model.proofs.Promised.{raise-throws, unwind-sweeps, gives-next}
-use Rattle.unwind.specs.Answers.{searched, raise_told, raised_by, raise_handed, Handed, resume_told, resumed_by, resume_handed, cleaned_as, cleaned, call_with, call_number, Called, unwound_by, unwound_handed}
-use Rattle.unwind.specs.declared.RaiseAnswer.{RaiseAnswer}
-use Rattle.unwind.specs.declared.RaiseAnswer.TheVariants as answer
+use Rattle.unwind.specs.Answers.{searched, raise_coded, raise_told, raised_by, raise_handed, Handed, resume_as, resume_coded, resume_told, file_of, resumed_by, resume_handed, cleaned_as, cleaned, call_with, call_number, Called, unwound_by, unwound_handed}
 use Rattle.unwind.specs.declared.Raised.{Raised}
 use Rattle.unwind.specs.declared.ResumeAnswer.{ResumeAnswer}
 use Rattle.unwind.specs.declared.ResumeAnswer.TheVariants as swept
 use Rattle.unwind.specs.declared.Resumed.{Resumed}
 use Rattle.unwind.specs.declared.Unwound.{Unwound}
 
--- an answer has the number and values of the outcome that it tells of
-told-search : (x : Result RaiseAnswer Failure) → raise_told x ≡ told_by (searched x)
-told-search (Ok (answer.Chosen number sp)) = refl
-told-search (Ok answer.Stopped) = refl
-told-search (Ok answer.Ended) = refl
-told-search (Err f) = refl
+-- every outcome of a search has the number and values of demand 3's
+told-search : (o : Outcome Searched) → raise_coded o ≡ told_by o
+told-search (Refused n) = refl
+told-search (Answer (Chosen number sp)) = refl
+told-search (Answer Stopped) = refl
+told-search (Answer Ended) = refl
 
--- so has a call's
-told-resume : (x : Result ResumeAnswer Failure) (file : List ℕ) (next : Frame) →
+-- so has every outcome of a call
+told-resume : (file : List ℕ) (o : Outcome Cleaned) → resume_coded (map resume_as o) (file_of file o) ≡ Cleanup.told_by o
+told-resume file (Refused n) = refl
+told-resume file (Answer (Install number pad next)) = refl
+told-resume file (Answer Fatal) = refl
+told-resume file (Answer Finished) = refl
+
+-- and a call's answer has those of the outcome that it tells of
+told-swept : (x : Result ResumeAnswer Failure) (file : List ℕ) (next : Frame) →
     resume_told x file ≡ Cleanup.told_by (cleaned_as (outcome x) file next)
-told-resume (Ok (swept.Install number)) file next = refl
-told-resume (Ok swept.Fatal) file next = refl
-told-resume (Ok swept.Finished) file next = refl
-told-resume (Err f) file next = refl
+told-swept (Ok (swept.Install number)) file next = refl
+told-swept (Ok swept.Fatal) file next = refl
+told-swept (Ok swept.Finished) file next = refl
+told-swept (Err f) file next = refl
 
 -- and it tells of the outcome of which it hands back what it hands back
 tells-call : (u : Unwinding) (o : Outcome Cleaned) (r : Resumed) → resume_handed r ≡ resumed_by u o → cleaned r ≡ o
@@ -61,7 +66,7 @@ pub told-throw : (l : Lent) (arch : ℕ) (file : List ℕ) (pc : ℕ) (interrupt
     × Throws l arch file pc interrupted (raise_told r.answer)
 told-throw l arch file pc interrupted exception r is =
     let told : raise_told r.answer ≡ told_by (raise l arch file pc interrupted) =
-    told-search r.answer ∙ ap (λ (b : Beside Searched Unwinding). told_by b.answer) is in
+    told-search (searched r.answer) ∙ ap (λ (b : Beside Searched Unwinding). told_by b.answer) is in
     (is, told, λ a. told ∙ raise-throws l arch file pc interrupted a)
 
 -- demand 3, of what a sweep call hands back
@@ -73,7 +78,7 @@ unfolding answer_of
 told-next l arch u r is =
     let same : cleaned r ≡ resume l arch u = tells-call u (resume l arch u) r is in (
       is,
-      told-resume r.answer r.regs.r (frame_of r.unwinding) ∙ ap Cleanup.told_by same,
+      told-swept r.answer r.regs.r (frame_of r.unwinding) ∙ ap Cleanup.told_by same,
       λ a. ap (compared_as (arch_of (machine_at a.thrown))) same ∙ gives-next (call_with l arch u) a,
     )
 
@@ -93,7 +98,7 @@ pub unwound : (n : ℕ) (l : Lent) (arch : ℕ) (file : List ℕ) (pc : ℕ) (in
 unwound n l arch file pc interrupted exception r is =
     let u = after n l arch (raised file pc interrupted exception (raise l arch file pc interrupted)) in (
       λ a.
-          told-search r.raised ∙ ap (λ (c : Called). told_by c.raised) is
+          told-search (searched r.raised) ∙ ap (λ (c : Called). told_by c.raised) is
           ∙ raise-throws l arch file pc interrupted a,
       λ a.
           ap (compared_as (arch_of (machine_at a.thrown))) (tells-call u (resume l arch u) r.resumed (ap (λ (c : Called). c.resumed) is))

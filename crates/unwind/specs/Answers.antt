@@ -1,7 +1,6 @@
 -- Document 01's number and values for each case of this crate's answers.
-use Rattle.std.specs.Prelude.{Bool, true, false, List, [], ◌∷◌, ℕ, Result, Ok, Err, Option, Some, None}
+use Rattle.std.specs.Prelude.{Bool, true, false, List, [], ◌∷◌, ℕ, Result, Option, Some, None}
 use Rattle.failure.specs.Outcome.{Outcome, Refused, Answer, Beside, outcome, map, settled}
-use Rattle.failure.specs.Failure.{number}
 use Rattle.failure.specs.declared.Failure.{Failure}
 use Rattle.mem.specs.Memory.{Lent}
 use Rattle.frame.specs.Public as Public
@@ -62,12 +61,16 @@ searched_as raise.Ended = Search.Ended
 abbrev pub searched : Result RaiseAnswer Failure → Outcome Searched
 searched r = map searched_as (outcome r)
 
--- the papers' number and values for each case: 6 with the chosen frame's number and sp, 3, 5, or a failure's number
+-- the papers' number and values for each case: 6 with the chosen frame's number and sp, 3, 5, or a refusal's number
+abbrev pub raise_coded : Outcome Searched → Outcome Coded
+raise_coded (Answer (Search.Chosen number sp)) = Answer (coded 6 (number ∷ sp ∷ []))
+raise_coded (Answer Search.Stopped) = Answer (coded 3 [])
+raise_coded (Answer Search.Ended) = Answer (coded 5 [])
+raise_coded (Refused n) = Refused n
+
+-- the same of what the code answers
 abbrev pub raise_told : Result RaiseAnswer Failure → Outcome Coded
-raise_told (Ok (raise.Chosen number sp)) = Answer (coded 6 (number ∷ sp ∷ []))
-raise_told (Ok raise.Stopped) = Answer (coded 3 [])
-raise_told (Ok raise.Ended) = Answer (coded 5 [])
-raise_told (Err f) = Refused (number f)
+raise_told r = raise_coded (searched r)
 
 -- a throw, with the unwinding that it hands back
 abbrev pub raised_by : List ℕ → ℕ → Bool → ℕ → Outcome Searched → Beside Searched Unwinding
@@ -84,12 +87,16 @@ resume_as Cleanup.Fatal = resume.Fatal
 resume_as Cleanup.Finished = resume.Finished
 
 -- the papers' number and values for each case, with the file beside it: 7 with the frame's number and the file at its pad, 2, finished,
--- which has no number there and is 0 here, or a failure's number
+-- which has no number there and is 0 here, or a refusal's number
+abbrev pub resume_coded : Outcome ResumeAnswer → List ℕ → Outcome Coded
+resume_coded (Answer (resume.Install number)) file = Answer (coded 7 (number ∷ file))
+resume_coded (Answer resume.Fatal) file = Answer (coded 2 [])
+resume_coded (Answer resume.Finished) file = Answer (coded 0 [])
+resume_coded (Refused n) file = Refused n
+
+-- the same of what the code answers
 abbrev pub resume_told : Result ResumeAnswer Failure → List ℕ → Outcome Coded
-resume_told (Ok (resume.Install number)) file = Answer (coded 7 (number ∷ file))
-resume_told (Ok resume.Fatal) file = Answer (coded 2 [])
-resume_told (Ok resume.Finished) file = Answer (coded 0 [])
-resume_told (Err f) file = Refused (number f)
+resume_told r file = resume_coded (outcome r) file
 
 -- the file at the landing's pad; otherwise the one that came in
 abbrev pub file_of : List ℕ → Outcome Cleaned → List ℕ

@@ -129,15 +129,19 @@ search_met number sp (Some w) rest = search_row number sp w.row rest
 abbrev pub SearchTurn : ℕ → ℕ → Option Met → ControlFlow RaiseAnswer (Unit {0}) → Type 0
 SearchTurn number sp w t = (rest : Outcome Searched) → search_or t rest ≡ search_met number sp w rest
 
--- a row of the cleanup phase: below the chosen number a cleanup lands, a catch is 22, terminate answers 2; at it a catch lands if sp is
--- the chosen one, and all else is 22
-unfoldable pub clean_row : Bool → Bool → ℕ → Row → Outcome Cleaning
-clean_row below same start row =
+-- a row's pad and action in the cleanup phase: below the chosen number a cleanup lands, a catch is 22, any other action answers 2; at it
+-- a catch lands if sp is the chosen one, and all else is 22
+abbrev pub clean_pad : Bool → Bool → ℕ → ℕ → ℕ → Outcome Cleaning
+clean_pad below same start pad action =
     if below then
-    (if eqb (number_of row.action) cleanup then Answer (cleaning.Install start row.pad)
-    else if eqb (number_of row.action) catch then Refused HandlerFrameMissed
+    (if eqb action cleanup then Answer (cleaning.Install start pad)
+    else if eqb action catch then Refused HandlerFrameMissed
     else Answer cleaning.Fatal)
-    else (if eqb (number_of row.action) catch && same then Answer (cleaning.Install start row.pad) else Refused HandlerFrameMissed)
+    else (if eqb action catch && same then Answer (cleaning.Install start pad) else Refused HandlerFrameMissed)
+
+-- the same of a row
+unfoldable pub clean_row : Bool → Bool → ℕ → Row → Outcome Cleaning
+clean_row below same start row = clean_pad below same start row.pad (number_of row.action)
 
 -- the same of a row that may be none: none goes on below the chosen number and is 22 at it
 abbrev pub clean_past : Bool → Bool → ℕ → Option Row → Outcome Cleaning

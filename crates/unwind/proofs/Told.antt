@@ -17,7 +17,9 @@ use Rattle.model.specs.Machine.{arch_of}
 use Rattle.model.specs.Demand.{answer_of}
 use Rattle.model.specs.Call.{after, compared_as, machine_at, Throws, Sweeps, GivesNext}
 use Rattle.model.proofs.Promised.{raise-throws, unwind-sweeps, gives-next}
-use Rattle.unwind.specs.Answers.{searched, raise_coded, raise_told, raised_by, raise_handed, Handed, resume_as, resume_coded, resume_told, file_of, resumed_by, resume_handed, cleaned_as, cleaned, call_with, call_number, Called, unwound_by, unwound_handed}
+use Rattle.unwind.specs.Answers.{searched, raise_as, raise_coded, raise_told, raised_by, raise_handed, Handed, resume_as, resume_coded, resume_told, file_of, resumed_by, resume_handed, cleaned_as, cleaned, call_with, call_number, Called, unwound_by, unwound_handed}
+use Rattle.unwind.specs.declared.RaiseAnswer.{RaiseAnswer}
+use Rattle.unwind.specs.declared.RaiseAnswer.TheVariants as answer
 use Rattle.unwind.specs.declared.Raised.{Raised}
 use Rattle.unwind.specs.declared.ResumeAnswer.{ResumeAnswer}
 use Rattle.unwind.specs.declared.ResumeAnswer.TheVariants as swept
@@ -25,13 +27,20 @@ use Rattle.unwind.specs.declared.Resumed.{Resumed}
 use Rattle.unwind.specs.declared.Unwound.{Unwound}
 
 -- every outcome of a search has the number and values of demand 3's
-told-search : (o : Outcome Searched) → raise_coded o ≡ told_by o
+told-search : (o : Outcome Searched) → raise_coded (map raise_as o) ≡ told_by o
 told-search (Refused n) = refl
 told-search (Answer (Chosen number sp)) = refl
 told-search (Answer Stopped) = refl
 told-search (Answer Ended) = refl
 
--- so has every outcome of a call
+-- and a throw's answer has those of the outcome that it tells of
+told-answer : (x : Result RaiseAnswer Failure) → raise_told x ≡ told_by (searched x)
+told-answer (Ok (answer.Chosen number sp)) = refl
+told-answer (Ok answer.Stopped) = refl
+told-answer (Ok answer.Ended) = refl
+told-answer (Err f) = refl
+
+-- every outcome of a call has the number and values of demand 3's
 told-resume : (file : List ℕ) (o : Outcome Cleaned) → resume_coded (map resume_as o) (file_of file o) ≡ Cleanup.told_by o
 told-resume file (Refused n) = refl
 told-resume file (Answer (Install number pad next)) = refl
@@ -66,7 +75,7 @@ pub told-throw : (l : Lent) (arch : ℕ) (file : List ℕ) (pc : ℕ) (interrupt
     × Throws l arch file pc interrupted (raise_told r.answer)
 told-throw l arch file pc interrupted exception r is =
     let told : raise_told r.answer ≡ told_by (raise l arch file pc interrupted) =
-    told-search (searched r.answer) ∙ ap (λ (b : Beside Searched Unwinding). told_by b.answer) is in
+    told-answer r.answer ∙ ap (λ (b : Beside Searched Unwinding). told_by b.answer) is in
     (is, told, λ a. told ∙ raise-throws l arch file pc interrupted a)
 
 -- demand 3, of what a sweep call hands back
@@ -98,7 +107,7 @@ pub unwound : (n : ℕ) (l : Lent) (arch : ℕ) (file : List ℕ) (pc : ℕ) (in
 unwound n l arch file pc interrupted exception r is =
     let u = after n l arch (raised file pc interrupted exception (raise l arch file pc interrupted)) in (
       λ a.
-          told-search (searched r.raised) ∙ ap (λ (c : Called). told_by c.raised) is
+          told-answer r.raised ∙ ap (λ (c : Called). told_by c.raised) is
           ∙ raise-throws l arch file pc interrupted a,
       λ a.
           ap (compared_as (arch_of (machine_at a.thrown))) (tells-call u (resume l arch u) r.resumed (ap (λ (c : Called). c.resumed) is))

@@ -61,16 +61,22 @@ searched_as raise.Ended = Search.Ended
 abbrev pub searched : Result RaiseAnswer Failure → Outcome Searched
 searched r = map searched_as (outcome r)
 
+-- what a search comes to, as the code's answer
+abbrev pub raise_as : Searched → RaiseAnswer
+raise_as (Search.Chosen number sp) = raise.Chosen number sp
+raise_as Search.Stopped = raise.Stopped
+raise_as Search.Ended = raise.Ended
+
 -- the papers' number and values for each case: 6 with the chosen frame's number and sp, 3, 5, or a refusal's number
-abbrev pub raise_coded : Outcome Searched → Outcome Coded
-raise_coded (Answer (Search.Chosen number sp)) = Answer (coded 6 (number ∷ sp ∷ []))
-raise_coded (Answer Search.Stopped) = Answer (coded 3 [])
-raise_coded (Answer Search.Ended) = Answer (coded 5 [])
+abbrev pub raise_coded : Outcome RaiseAnswer → Outcome Coded
+raise_coded (Answer (raise.Chosen number sp)) = Answer (coded 6 (number ∷ sp ∷ []))
+raise_coded (Answer raise.Stopped) = Answer (coded 3 [])
+raise_coded (Answer raise.Ended) = Answer (coded 5 [])
 raise_coded (Refused n) = Refused n
 
 -- the same of what the code answers
 abbrev pub raise_told : Result RaiseAnswer Failure → Outcome Coded
-raise_told r = raise_coded (searched r)
+raise_told r = raise_coded (outcome r)
 
 -- a throw, with the unwinding that it hands back
 abbrev pub raised_by : List ℕ → ℕ → Bool → ℕ → Outcome Searched → Beside Searched Unwinding

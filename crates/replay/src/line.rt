@@ -11,12 +11,14 @@ use std::alloc::{AllocError, Global};
 use std::slice::Iter;
 
 // The most numbers of a line, and the most bytes of a range.
-pub const WORDS: usize = 8192;
+const WORDS: usize = 8192;
 
 const MOST_BYTES: usize = 6144;
 
 // The value of a lower-case hexadecimal digit; 0 for any other byte.
-fn digit(c: u8) -> usize {
+fn digit(c: u8) -> usize
+    ensures { result < 16 }
+{
     match c {
         b'0'..=b'9' => usize::from(c - b'0'),
         b'a'..=b'f' => usize::from(c - b'a') + 10,
@@ -24,22 +26,47 @@ fn digit(c: u8) -> usize {
     }
 }
 
-// A number in hexadecimal, modulo 2^64.
-fn number(digits: &[u8]) -> usize {
-    let mut n: usize = 0;
-    for &c in digits {
-        n = n.wrapping_mul(16).wrapping_add(digit(c));
-    }
-    n
+// A list as far as it is read: the numbers of its present line over those of the lines before it, how many these are, and the next one
+// by its digits so far, modulo 2^64.
+#[derive(Drop)]
+pub struct Numbers {
+    words: [usize; WORDS],
+    count: usize,
+    next: usize,
 }
 
-// Reads the numbers of a line over those of the lines before it. Whether there is room for all.
-pub fn read_numbers(text: &[u8], words: &mut [usize]) -> bool {
-    let mut tokens = text.split(|c| *c == b' ');
-    for (word, digits) in words.iter_mut().zip(tokens.by_ref()) {
-        *word = number(digits);
+impl Numbers {
+    pub fn new() -> Self {
+        Numbers {
+            words: [0; WORDS],
+            count: 0,
+            next: 0,
+        }
     }
-    tokens.next().is_none()
+
+    // One byte more of the list. Whether a line ends with it. A line of more numbers than there is room for ends the list.
+    pub fn feed(&mut self, c: u8) -> bool {
+        let ends_line = c == b'\n';
+        if !ends_line && c != b' ' {
+            self.next = self.next.wrapping_mul(16).wrapping_add(digit(c));
+            return false;
+        }
+        if self.count >= WORDS {
+            return false;
+        }
+        self.words[self.count] = self.next;
+        self.next = 0;
+        self.count = if ends_line { 0 } else { self.count + 1 };
+        ends_line
+    }
+
+    // The line that ends.
+    pub fn line(&self, alloc: Global) -> Line<'_> {
+        Line {
+            words: self.words.iter(),
+            alloc,
+        }
+    }
 }
 
 // What is left of a line. A number that it lacks is that of the last line which had one there, or 0.
@@ -76,14 +103,7 @@ fn file_size(arch: u8) -> usize
     if arch == AARCH64 { 41 } else { 17 }
 }
 
-impl<'a> Line<'a> {
-    pub fn new(words: &'a [usize], alloc: Global) -> Self {
-        Line {
-            words: words.iter(),
-            alloc,
-        }
-    }
-
+impl Line<'_> {
     // The next number.
     pub fn word(&mut self) -> usize {
         self.words.next().copied().unwrap_or(0)
@@ -126,8 +146,9 @@ impl<'a> Line<'a> {
 
     // LEN bytes, or as many as a range has at most.
     fn bytes(&mut self) -> Result<Vec<u8>, AllocError> {
-        let mut bytes = Vec::new(self.alloc);
-        for _ in 0..self.word().min(MOST_BYTES) {
+        let len = self.word().min(MOST_BYTES);
+        let mut bytes = Vec::with_capacity(self.alloc, len)?;
+        for _ in 0..len {
             bytes.push(self.u8())?;
         }
         Ok(bytes)

@@ -3,8 +3,8 @@
 #![tactic(auto)]
 
 use cases::check_case;
-use line::{Line, WORDS, read_numbers};
-use std::alloc::{AllocError, Global};
+use line::Numbers;
+use std::alloc::Global;
 use std::fs::File;
 use std::io::Read;
 use std::rt::Files;
@@ -16,8 +16,10 @@ mod line;
 mod operation;
 mod same;
 
-// The most bytes of a list that are read.
-const MOST: u64 = 16 * 1024 * 1024;
+// A list is read in parts of so many bytes, and so many parts of it at most.
+const PART: u64 = 65536;
+
+const PARTS: usize = 256;
 
 // What the replay of a list has come to: how many cases it has had, how many of them differ and which was the first, counted from 1.
 #[derive(Clone, Copy, Default)]
@@ -49,31 +51,32 @@ impl fmt::Display for Progress {
     }
 }
 
-// Replays a list. A last line that does not end is no case, and a line of more numbers than there is room for ends the list.
-fn replay_list(list: &[u8], alloc: Global) -> Result<Progress, AllocError> {
+// Replays a list by its parts. A last line that does not end is no case.
+fn replay_list(list: &mut impl Read, alloc: Global) -> io::Result<Progress> {
     let mut progress = Progress::default();
-    let mut words = [0; WORDS];
-    for line in list.split_inclusive(|c| *c == b'\n') {
-        let Some(line) = line.strip_suffix(b"\n") else {
-            break;
-        };
-        if !read_numbers(line, &mut words) {
+    let mut numbers = Numbers::new();
+    let mut part = Vec::new(alloc);
+    for _ in 0..PARTS {
+        part.clear();
+        if list.by_ref().take(PART).read_to_end(&mut part)? == 0 {
             break;
         }
-        progress.count(check_case(&mut Line::new(&words, alloc))?);
+        for &c in &part {
+            if numbers.feed(c) {
+                progress.count(check_case(&mut numbers.line(alloc))?);
+            }
+        }
     }
     Ok(progress)
 }
 
 // Replays a list by its file's name, and writes a line of what came of it.
 fn replay<R: Files + Print + Eprint + AllocGlobal>(rt: &R, name: &str) -> io::Result<()> {
-    let file = match File::open(rt, name) {
-        Ok(file) => file,
+    let mut list = match File::open(rt, name) {
+        Ok(list) => list,
         Err(e) => return eprintln!(rt; "{name}: {e}"),
     };
-    let mut list = Vec::new(rt.alloc());
-    file.take(MOST).read_to_end(&mut list)?;
-    let progress = replay_list(&list, rt.alloc())?;
+    let progress = replay_list(&mut list, rt.alloc())?;
     println!(rt; "{name}: {progress}")
 }
 

@@ -30,7 +30,7 @@ use Rattle.program.specs.declared.Step.TheVariants as step
 use Rattle.program.specs.Operation.{Decoding, decode}
 use Rattle.program.specs.Rule.{follow}
 use Rattle.program.specs.Run.{Stand, Ran, Turn, On, Ends, Refused, advance, remember, recall, set, act, turned, run_from, begin, run, max_remember}
-use Rattle.program.specs.Answers.{turn, stepped, Room, finished, stopped, through}
+use Rattle.program.specs.Answers.{turn, stepped, Room, finished, stopped, ended, through}
 use Rattle.program.proofs.Decoding.{decode-limit, decode-moves}
 use Rattle.program.proofs.Offsets.{Lower, act_lower, Within, act-within}
 
@@ -413,6 +413,12 @@ module _ {m : Memory} {a : Arch} {program limit off last : ℕ} (lower : off ≤
                 go None f q =
                     sofar_ends m a program limit off st states depth at pos f next op e (record { state = st'; after = 0 })
                     ((low f).1 h)
+
+-- a run that was refused, as the code hands it back
+pub ended_refused :
+    (first : State) (a : Arch) → first ≡ entry a → (o : Outcome Ran) (n : ℕ) → o ≡ Outcome.Refused n →
+    record { status = Outcome.Refused n; state = first; after = 0 } ≡ ended (entry a) o
+ended_refused first a e o n p = rw (p, e)
 
 -- the bytes of an advance fit, on both architectures
 pub unit_small : (arch : ℕ) → (numbers arch).unit ≤ 4

@@ -47,6 +47,10 @@ part_read stack k r p fits = value r whole
     value (Ok v) e = cc
     value (Err f) e = answer-refused _ (number f) (sym e)
 
+-- a test that fails tells nothing
+pub no : (A : Type 0) → false ≡ true → A
+no A e = let z : ◌≡◌ {A = ℕ} 0 1 = cc in absurd (omega arith)
+
 -- a range of addresses does not hold bytes at or past its end
 past_end : (base size a : ℕ) → base + size ≤ a → holds base size a 8 ≡ false
 unfolding holds

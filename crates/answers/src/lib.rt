@@ -244,7 +244,8 @@ impl From<Result<(usize, usize), Failure>> for Read {
 }
 
 impl From<state::Next> for Changed {
-    ghost from_gives = { λ change changed. (old : State) (x : Change) → Changes old x change.status change.state → changed ≡ Interface.changed old x };
+    ghost from_gives = { λ change changed. changed ≡ record { status = Interface.status (outcome change.status); state = change.state }
+        × ((old : State) (x : Change) → Changes old x change.status change.state → changed ≡ Interface.changed old x) };
 
     fn from(change: state::Next) -> Changed {
         Changed {

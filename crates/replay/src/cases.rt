@@ -15,9 +15,15 @@ use std::alloc::AllocError;
 
 // A line: OPERATION ARCH, and the case. A line of no operation differs.
 pub fn check_case(line: &mut Line<'_>) -> Result<bool, AllocError> {
-    let Ok(operation) = Operation::try_from(line.word()) else {
-        return Ok(false);
-    };
+    match Operation::try_from(line.word()) {
+        Ok(operation) => check_operation(operation, line),
+        Err(_) => Ok(false),
+    }
+}
+
+// What stands on the line after its operation. It is apart, so that a line of none costs no more than to read its number.
+#[inline(never)]
+fn check_operation(operation: Operation, line: &mut Line<'_>) -> Result<bool, AllocError> {
     let arch = line.u8();
     Ok(match operation {
         Operation::Uleb => check_uleb(line)?,

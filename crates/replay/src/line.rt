@@ -8,7 +8,6 @@ use mem::Memory;
 use personality::Phase;
 use state::State;
 use std::alloc::{AllocError, Global};
-use std::slice::Iter;
 
 // The most numbers of a line, and the most bytes of a range.
 const WORDS: usize = 8192;
@@ -63,7 +62,7 @@ impl Numbers {
     // The line that ends.
     pub fn line(&self, alloc: Global) -> Line<'_> {
         Line {
-            words: self.words.iter(),
+            words: &self.words,
             alloc,
         }
     }
@@ -72,7 +71,7 @@ impl Numbers {
 // What is left of a line. A number that it lacks is that of the last line which had one there, or 0.
 #[derive(Drop)]
 pub struct Line<'a> {
-    words: Iter<'a, usize>,
+    words: &'a [usize],
     alloc: Global,
 }
 
@@ -106,7 +105,13 @@ fn file_size(arch: u8) -> usize
 impl Line<'_> {
     // The next number.
     pub fn word(&mut self) -> usize {
-        self.words.next().copied().unwrap_or(0)
+        match self.words.split_first() {
+            Some((word, rest)) => {
+                self.words = rest;
+                *word
+            }
+            None => 0,
+        }
     }
 
     // The next number modulo 2^8, 2^16 or 2^32.
@@ -146,11 +151,12 @@ impl Line<'_> {
 
     // LEN bytes, or as many as a range has at most.
     fn bytes(&mut self) -> Result<Vec<u8>, AllocError> {
-        let len = self.word().min(MOST_BYTES);
-        let mut bytes = Vec::with_capacity(self.alloc, len)?;
-        for _ in 0..len {
-            bytes.push(self.u8())?;
+        let mut bytes = vec![in self.alloc; 0; self.word().min(MOST_BYTES)]?;
+        let (words, rest) = self.words.split_at(bytes.len().min(self.words.len()));
+        for (byte, word) in bytes.iter_mut().zip(words) {
+            *byte = (*word % 0x100) as u8;
         }
+        self.words = rest;
         Ok(bytes)
     }
 

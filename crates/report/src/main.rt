@@ -3,6 +3,8 @@
 // A number in decimal is set to the right in its column; an address or a register has 16 hexadecimal digits.
 #![tactic(auto)]
 
+ghost use Rattle.std.specs.Prelude.{◌≡◌, ◌≤◌, length, IfOk};
+
 use capture::{Capture, MOST, arch_name};
 use frames::frames;
 use pads::pads;
@@ -68,11 +70,33 @@ fn report(rt: &impl Print, c: &Capture<'_>) -> io::Result<()> {
     throw_lines(rt, c, spot)
 }
 
+// Zeros for a capture and one byte more.
+fn room() -> [u8; MOST + 1]
+    ensures { 1048576 ≡ length result }
+{
+    [0; MOST + 1]
+}
+
+// Fills the room from the start with what a reader gives, until either ends; how many bytes that are.
+fn read_full(reader: &mut impl Read, room: &mut [u8]) -> io::Result<usize>
+    ensures { IfOk result (λ n. n ≤ length room.new) }
+{
+    let mut done: usize = 0;
+    while done < room.len() {
+        let n = reader.read(&mut room[done..])?;
+        if n == 0 {
+            return Ok(done);
+        }
+        done += n;
+    }
+    Ok(done)
+}
+
 fn main(rt: HostRuntime) -> io::Result<()> {
-    // a capture, and a byte more where the input is longer
-    let mut input = Vec::new(rt.alloc());
-    rt.reader().take(MOST as u64 + 1).read_to_end(&mut input)?;
-    match Capture::read(&input) {
+    // a capture, and a byte more where the input is longer; on the stack, so that no input is refused for want of memory
+    let mut input = room();
+    let n = read_full(&mut rt.reader(), &mut input)?;
+    match Capture::read(&input[..n]) {
         Ok(capture) => report(&rt, &capture),
         Err(broken) => println!(rt; "{broken}"),
     }

@@ -1,0 +1,9 @@
+-- What is filled stays within the room, and each read fills more of it.
+use Rattle.std.proofs.Common.{◌-◌, ◌≤◌, length}
+use Rattle.report.proofs.read_full.Given as goal
+
+abbrev pub invariant-loop-done : goal.invariant-loop-done
+invariant-loop-done g l = l.done ≤ length l.room
+
+abbrev pub decreases-loop-done : goal.decreases-loop-done
+decreases-loop-done g l = length l.initial.room - l.done

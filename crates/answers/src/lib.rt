@@ -243,6 +243,27 @@ impl From<Result<(usize, usize), Failure>> for Read {
     }
 }
 
+// The state that came in, copied by its parts. Copied whole it goes through memory once more and by a call of `memcpy`: a change of a
+// state took half as much time again.
+pub fn by_parts(state: State) -> State
+    ensures { result ≡ state }
+{
+    let State {
+        cfa_fp,
+        cfa_units,
+        count,
+        regs,
+        slots,
+    } = state;
+    State {
+        cfa_fp,
+        cfa_units,
+        count,
+        regs,
+        slots,
+    }
+}
+
 impl From<state::Next> for Changed {
     ghost from_gives = { λ change changed. changed ≡ record { status = Interface.status (outcome change.status); state = change.state }
         × ((old : State) (x : Change) → Changes old x change.status change.state → changed ≡ Interface.changed old x) };
@@ -250,7 +271,7 @@ impl From<state::Next> for Changed {
     fn from(change: state::Next) -> Changed {
         Changed {
             status: status_of(&change.status),
-            state: change.state,
+            state: by_parts(change.state),
         }
     }
 }

@@ -29,7 +29,7 @@ ghost use Rattle.answers.specs.Offsets as Offsets;
 use answers::layout::{Layout, layout_told};
 use answers::{
     Batch, Changed, Decided, Ended, File, Function, Number, Raised, Read, Resumed, RowFound,
-    Stepped, to_phase,
+    Stepped, by_parts, to_phase,
 };
 use arch::Regs;
 use leb::read_uleb;
@@ -144,6 +144,7 @@ pub extern "C" fn eko_slot(state: State, reg: u16) -> Number
 pub extern "C" fn eko_save(state: State, reg: usize, slot: usize) -> Changed
     ensures { result ≡ Interface.changed state (Save.save state reg slot) }
 {
+    let state = by_parts(state);
     Changed::from(state.save(reg, slot))
 }
 
@@ -152,6 +153,7 @@ pub extern "C" fn eko_save(state: State, reg: usize, slot: usize) -> Changed
 pub extern "C" fn eko_restore(arch: u8, state: State, reg: usize) -> Changed
     ensures { result ≡ Interface.changed state (Change.restore arch state reg) }
 {
+    let state = by_parts(state);
     Changed::from(state.restore(arch, reg))
 }
 

@@ -243,8 +243,8 @@ impl From<Result<(usize, usize), Failure>> for Read {
     }
 }
 
-// The state that came in, copied by its parts. Copied whole it goes through memory once more and by a call of `memcpy`: a change of a
-// state took half as much time again.
+// The same state, copied by its parts. Copied whole it goes through memory once more and by a call of `memcpy`: a change of a state took
+// half as much time again.
 pub fn by_parts(state: State) -> State
     ensures { result ≡ state }
 {
